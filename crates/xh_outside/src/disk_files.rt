@@ -1,23 +1,35 @@
-ghost use Rattle.std.specs.Prelude.{◌≤◌, length, None, IfOk};
+ghost use Rattle.std.specs.Prelude.{◌≡◌, ◌≤◌, length, None, IfOk};
 
 use crate::{Bytes, Files, ReadError};
 use std::alloc::Global;
 use std::io::{ErrorKind, Read};
+use std::marker::Model;
 use std::{fs, rt};
 
 /// How many bytes one call reads from the system at most.
 const PIECE_SIZE: usize = 4096;
 
-/// Files of the system, by path. They tell no contents, and no read is made to fail.
+/// Files of the system, by path. They tell no contents, and no read is made to fail. Contracts see
+/// how often a read has failed.
 #[derive(Drop)]
 pub struct DiskFiles<R> {
     rt: R,
     faults: u64,
 }
 
+impl<R> Model for DiskFiles<R> {
+    ghost use Rattle.std.specs.Prelude.{ℕ};
+
+    ghost Value = { ℕ };
+
+    ghost view = { λ f. f.faults };
+}
+
 impl<R: rt::Files> DiskFiles<R> {
-    /// The files that this runtime opens.
-    pub fn new(rt: R) -> Self {
+    /// The files that this runtime opens. No read has failed yet.
+    pub fn new(rt: R) -> Self
+        ensures { result ≡ 0 }
+    {
         DiskFiles { rt, faults: 0 }
     }
 }
@@ -27,7 +39,7 @@ impl<R: rt::Files> Files for DiskFiles<R> {
 
     ghost left = { λ _. None };
 
-    ghost faults = { λ f. f.faults };
+    ghost faults = { λ f. f };
 
     fn read(&mut self, alloc: Global, name: &str, limit: u64) -> Result<Bytes, ReadError> {
         match read_file(&self.rt, alloc, name, limit) {

@@ -13,6 +13,8 @@ mod mem_sink;
 mod name;
 mod sink;
 mod std_sink;
+#[cfg(test)]
+mod tests;
 mod words;
 
 pub use bytes::Bytes;

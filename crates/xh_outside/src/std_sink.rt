@@ -1,18 +1,30 @@
-ghost use Rattle.std.specs.Prelude.{None};
+ghost use Rattle.std.specs.Prelude.{◌≡◌, None};
 
 use crate::{Failed, Sink};
 use std::io::ErrorKind;
+use std::marker::Model;
 
-/// A standard stream, or any other place for output. It tells no bytes.
+/// A standard stream, or any other place for output. It tells no bytes. Contracts see how often a
+/// write has failed.
 #[derive(Drop)]
 pub struct StdSink<P> {
     to: P,
     faults: u64,
 }
 
+impl<P> Model for StdSink<P> {
+    ghost use Rattle.std.specs.Prelude.{ℕ};
+
+    ghost Value = { ℕ };
+
+    ghost view = { λ s. s.faults };
+}
+
 impl<P: Print> StdSink<P> {
-    /// The sink that writes there.
-    pub fn new(to: P) -> Self {
+    /// The sink that writes there. No write has failed yet.
+    pub fn new(to: P) -> Self
+        ensures { result ≡ 0 }
+    {
         StdSink { to, faults: 0 }
     }
 }
@@ -20,7 +32,7 @@ impl<P: Print> StdSink<P> {
 impl<P: Print> Sink for StdSink<P> {
     ghost bytes = { λ _. None };
 
-    ghost faults = { λ s. s.faults };
+    ghost faults = { λ s. s };
 
     // A write that was only interrupted is tried again. One that takes nothing is a fault, since
     // more tries might never end.
