@@ -1,0 +1,14 @@
+//! Trees in an arena.
+//!
+//! A [`Module`] keeps the nodes of its expressions one after the other. A node names its parts by the ids of
+//! earlier nodes, so each node is the root of one finite tree, and contracts see that tree.
+#![tactic(auto)]
+
+mod bounds;
+mod module;
+mod nodes;
+
+pub use bounds::Bounds;
+pub use module::Module;
+pub use nodes::{ExprId, ExprNode, FnNode};
+pub use spec_trees::{BinaryOp, CompareOp, ExcClass, LimitKind};

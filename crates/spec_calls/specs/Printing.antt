@@ -1,0 +1,30 @@
+-- How calls and values are printed.
+use Rattle.std.specs.Prelude.{ℕ, Bool, true, false, List, [], ◌∷◌, ◌++◌, codes, if◌then◌else◌}
+use Rattle.std.specs.Fmt.{signed_decimal}
+use Rattle.spec_trees.specs.Program.{Parameter, Function}
+use Rattle.spec_running.specs.declared.Value.{Value}
+use Rattle.spec_running.specs.declared.Value.TheVariants.{Nil, Bool as Truth, Int}
+use Rattle.spec_calls.specs.Calls.{Argument, Number, Call}
+
+-- a value as it is shown
+abbrev pub shown : Value → List ℕ
+shown Nil = codes "None"
+shown (Truth b) = if b then codes "True" else codes "False"
+shown (Int z) = signed_decimal z
+
+abbrev pub argument_text : Argument → List ℕ
+argument_text (Number z) = signed_decimal z
+
+abbrev pub named : List ℕ → Argument → List ℕ
+named name a = name ++ codes " = " ++ argument_text a
+
+-- `P1 = A1, P2 = A2`
+abbrev pub arguments_text : List Parameter → Call → List ℕ
+arguments_text [] as' = []
+arguments_text (p ∷ ps) [] = []
+arguments_text (p ∷ []) (a ∷ rest) = named p.name a
+arguments_text (p ∷ q ∷ ps) (a ∷ rest) = named p.name a ++ codes ", " ++ arguments_text (q ∷ ps) rest
+
+-- a call is printed as `NAME(P1 = A1, P2 = A2)`
+unfoldable pub printed : Function → Call → List ℕ
+printed f c = f.name ++ codes "(" ++ arguments_text f.parameters c ++ codes ")"

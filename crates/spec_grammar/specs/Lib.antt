@@ -1,0 +1,4 @@
+pub mod Marks
+pub mod Grammar
+pub mod Height
+pub mod Reading

@@ -1,0 +1,2 @@
+//! The grammar of expressions, as a relation between words and trees, and the plain function that reads them.
+#![tactic(auto)]
