@@ -14,8 +14,7 @@ function_of f = record {
   name = f.head.name;
   parameters = record { name = f.head.parameter; type = Integer } ∷ [];
   preconditions = [];
-  raises = [];
-  conditions = Raises 1 ∷ Post 2 f.post None ∷ [];
+  conditions = Raises 1 ∷ Post 2 f.post ∷ [];
   body = record { number = 0; statement = Return f.value } ∷ [];
 }
 

@@ -1,6 +1,5 @@
 -- Programs: the functions that are checked, with their conditions. Names are lists of bytes.
-use Rattle.std.specs.Prelude.{ℕ, List, Option}
-use Rattle.spec_trees.specs.declared.ExcClass.{ExcClass}
+use Rattle.std.specs.Prelude.{ℕ, List}
 use Rattle.spec_trees.specs.Expr.{Expr}
 
 -- the types of parameters
@@ -23,17 +22,15 @@ pub record Numbered : Type 0 where
 
 -- What a function promises. Each condition has the line under which it is reported.
 pub data Condition : Type 0 where
-  -- no exception class outside `raises` is raised
+  -- no exception class is raised
   Raises : ℕ → Condition
-  -- the expression holds after the call, and only the named parameters may change, where there are brackets
-  Post : ℕ → Expr → Option (List (List ℕ)) → Condition
+  -- the expression holds after the call
+  Post : ℕ → Expr → Condition
 
 pub record Function : Type 0 where
   pub name : List ℕ
   pub parameters : List Parameter
   pub preconditions : List Expr
-  -- the classes that it may raise
-  pub raises : List ExcClass
   pub conditions : List Condition
   pub body : List Numbered
 

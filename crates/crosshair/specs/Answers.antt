@@ -1,0 +1,13 @@
+-- What reading a content answers.
+use Rattle.std.specs.Prelude.{◌≡◌, ℕ, List, [], ◌∷◌, map, Result, Ok, Err}
+use Rattle.spec_trees.specs.Program.{Program, Function}
+use Rattle.py_tree.specs.declared.nodes.FnNode.{FnNode}
+use Rattle.py_tree.specs.Arena.{ModuleState}
+use Rattle.crosshair.specs.declared.admission.Admission.{Admission}
+use Rattle.crosshair.specs.declared.admission.Admission.TheVariants.{Admitted, Refused}
+use Rattle.crosshair.specs.Meaning.{function_in}
+
+-- a module stands for the program of its functions, or the content is refused at a line
+abbrev pub IsAdmission : Result Program ℕ → Admission → Type 0
+IsAdmission want (Admitted m) = want ≡ Ok (record { functions = map (function_in m.nodes) m.functions })
+IsAdmission want (Refused line) = want ≡ Err line

@@ -1,0 +1,47 @@
+-- What the types of this crate mean to the definitions.
+use Rattle.std.specs.Prelude.{ℕ, ℤ, List, [], ◌∷◌, map}
+use Rattle.spec_trees.specs.Program.{Function}
+use Rattle.spec_trees.specs.Program as program
+use Rattle.spec_running.specs.States.{Locals}
+use Rattle.spec_running.specs.declared.Value.{Value}
+use Rattle.spec_calls.specs.Calls.{Call, Number}
+use Rattle.spec_contracts.specs.Forms.{Form}
+use Rattle.spec_contracts.specs.Admission.{function_of}
+use Rattle.spec_verdicts.specs.Breaking as breaking
+use Rattle.spec_verdicts.specs.Verdicts as verdicts
+use Rattle.py_tree.specs.declared.nodes.ExprNode.{ExprNode}
+use Rattle.py_tree.specs.declared.nodes.FnNode.{FnNode}
+use Rattle.py_tree.specs.Arena.{shown}
+use Rattle.crosshair.specs.declared.verdicts.Fault.{Fault}
+use Rattle.crosshair.specs.declared.verdicts.Fault.TheVariants.{WasFalse, RaisedInBody, RaisedInPost}
+use Rattle.crosshair.specs.declared.verdicts.Verdict.{Verdict}
+use Rattle.crosshair.specs.declared.verdicts.Verdict.TheVariants.{Error, NotConfirmed, Unmet, Confirmed}
+use Rattle.crosshair.specs.declared.verdicts.Condition.{Condition}
+use Rattle.crosshair.specs.declared.verdicts.Condition.TheVariants.{Raises, Post}
+
+-- a function node as the form of its file
+abbrev pub form_in : List ExprNode → FnNode → Form
+form_in nodes f = record { head = record { name = f.name; parameter = f.parameter }; post = shown nodes f.post.index; value = shown nodes f.value.index }
+
+-- the checked function of a node
+abbrev pub function_in : List ExprNode → FnNode → Function
+function_in nodes f = function_of (form_in nodes f)
+
+abbrev pub condition_in : List ExprNode → FnNode → Condition → program.Condition
+condition_in nodes f Raises = program.Raises 1
+condition_in nodes f Post = program.Post 2 (shown nodes f.post.index)
+
+-- the call with this argument
+abbrev pub call_with : ℤ → Call
+call_with z = Number z ∷ []
+
+abbrev pub fault_in : Fault → breaking.Fault
+fault_in (WasFalse v) = breaking.WasFalse v
+fault_in (RaisedInBody c) = breaking.RaisedInBody c
+fault_in (RaisedInPost c) = breaking.RaisedInPost c
+
+abbrev pub verdict_in : Verdict → verdicts.Verdict
+verdict_in (Error z fault) = verdicts.Error (call_with z) (fault_in fault)
+verdict_in (NotConfirmed z k) = verdicts.NotConfirmed (call_with z) k
+verdict_in Unmet = verdicts.Unmet
+verdict_in Confirmed = verdicts.Confirmed

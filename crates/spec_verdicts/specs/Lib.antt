@@ -1,0 +1,6 @@
+pub mod Judging
+pub mod Breaking
+pub mod Verdicts
+pub mod Lines
+pub mod Settings
+pub mod Report
