@@ -3,7 +3,7 @@
 --   sum  = term {("+" | "-") term}
 --   term = atom {"*" atom}
 --   atom = NAME | INT | "(" expr ")"
-use Rattle.std.specs.Prelude.{◌≡◌, ℕ, zero, suc, List, [], ◌∷◌, Option, Some}
+use Rattle.std.specs.Prelude.{◌≡◌, ℕ, zero, suc, List, ◌∷◌, Some}
 use Rattle.spec_tokens.specs.declared.Mark.TheVariants.{OpenParen, CloseParen}
 use Rattle.spec_tokens.specs.declared.Word.{Word}
 use Rattle.spec_tokens.specs.declared.Word.TheVariants.{Name, Int, Mark}

@@ -1,5 +1,5 @@
 -- The height and the size of an expression.
-use Rattle.std.specs.Prelude.{◌≡◌, ◌≤◌, ℕ, ◌+◌, max, List, []}
+use Rattle.std.specs.Prelude.{◌≤◌, ℕ, ◌+◌, max, List, []}
 use Rattle.spec_tokens.specs.declared.Word.{Word}
 use Rattle.spec_trees.specs.Expr.{Expr, name, integer, binary, compare, group}
 use Rattle.spec_grammar.specs.Grammar.{IsExpr}

@@ -1,5 +1,5 @@
 -- What single words mean to the grammar.
-use Rattle.std.specs.Prelude.{ℕ, zero, suc, List, [], ◌∷◌, Option, Some, None, ◌==◌, if◌then◌else◌}
+use Rattle.std.specs.Prelude.{ℕ, List, [], ◌∷◌, Option, Some, None, ◌==◌, if◌then◌else◌}
 use Rattle.spec_tokens.specs.declared.Mark.{Mark}
 use Rattle.spec_tokens.specs.declared.Mark.TheVariants.{Plus, Minus, Star, Equal, NotEqual, Less, LessEqual, Greater, GreaterEqual, OpenParen, CloseParen, Colon, Arrow, Def, Return, Reserved, Newline}
 use Rattle.spec_tokens.specs.declared.Word.{Word}

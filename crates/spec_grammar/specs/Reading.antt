@@ -1,5 +1,5 @@
 -- Reading from left to right, with no way back.
-use Rattle.std.specs.Prelude.{ℕ, zero, suc, List, [], ◌∷◌, Bool, ◌&&◌, nat_le, option_and_then, Option, Some, None, if◌then◌else◌}
+use Rattle.std.specs.Prelude.{ℕ, zero, suc, List, [], ◌∷◌, ◌&&◌, nat_le, Option, Some, None, if◌then◌else◌}
 use Rattle.spec_tokens.specs.declared.Mark.TheVariants.{OpenParen, CloseParen}
 use Rattle.spec_tokens.specs.declared.Word.{Word}
 use Rattle.spec_tokens.specs.declared.Word.TheVariants as word
