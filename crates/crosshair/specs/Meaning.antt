@@ -1,5 +1,5 @@
 -- What the types of this crate mean to the definitions.
-use Rattle.std.specs.Prelude.{ℕ, ℤ, List, [], ◌∷◌, map}
+use Rattle.std.specs.Prelude.{ℕ, ℤ, Bool, List, [], ◌∷◌, map, Option, Some, None}
 use Rattle.spec_trees.specs.Program.{Function}
 use Rattle.spec_trees.specs.Program as program
 use Rattle.spec_running.specs.States.{Locals}
@@ -30,6 +30,12 @@ function_in nodes f = function_of (form_in nodes f)
 abbrev pub condition_in : List ExprNode → FnNode → Condition → program.Condition
 condition_in nodes f Raises = program.Raises 1
 condition_in nodes f Post = program.Post 2 (shown nodes f.post.index)
+
+-- f of both integers, where both are there
+abbrev pub both : (ℤ → ℤ → Bool) → Option ℤ → Option ℤ → Option Bool
+both f (Some a) (Some b) = Some (f a b)
+both f (Some a) None = None
+both f None b = None
 
 -- the call with this argument
 abbrev pub call_with : ℤ → Call

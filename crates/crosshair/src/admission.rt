@@ -16,7 +16,7 @@ pub enum Admission {
 }
 
 /// Reads a content: its words, its lines and its names, in this order.
-pub fn admission(alloc: Global, content: &[u8]) -> Result<Admission, NoMemory>
+pub fn admit(alloc: Global, content: &[u8]) -> Result<Admission, NoMemory>
     ensures { IfOk result (IsAdmission (admit content.now)) }
 {
     let _ = content;

@@ -2,7 +2,6 @@
 #![tactic(auto)]
 
 mod admission;
-mod calls;
 mod evaluator;
 mod operations;
 mod verdicts;

@@ -36,17 +36,17 @@ pub enum Verdict {
 }
 
 /// The verdict of a condition over all calls within the bounds.
-pub fn verdict(
+pub fn verdict_of(
     alloc: Global,
-    module: &Module,
+    trees: &Module,
     function: &FnNode,
     condition: Condition,
     bounds: &Bounds,
 ) -> Result<Verdict, NoMemory>
-    requires post { function.now.post.index < length module.now.nodes }
-    requires value { function.now.value.index < length module.now.nodes }
-    ensures { IfOk result (λ v. verdict (function_in module.now.nodes function.now) (condition_in module.now.nodes function.now condition) (bounds_of bounds.now) ≡ verdict_in v) }
+    requires post { function.now.post.index < length trees.now.nodes }
+    requires value { function.now.value.index < length trees.now.nodes }
+    ensures { IfOk result (λ v. verdict (function_in trees.now.nodes function.now) (condition_in trees.now.nodes function.now condition) (bounds_of bounds.now) ≡ verdict_in v) }
 {
-    let _ = (alloc, module, function, condition, bounds);
+    let _ = (alloc, trees, function, condition, bounds);
     Ok(Verdict::Confirmed)
 }

@@ -47,22 +47,23 @@ on_numbers f None b = Raised TypeError
 abbrev pub calculated : BinaryOp → Value → Value → Outcome
 calculated op v w = on_numbers (λ a b. computed (arithmetic op a b)) (number v) (number w)
 
+abbrev pub equal_numbers : Option ℤ → Option ℤ → Bool
+equal_numbers None None = true
+equal_numbers None (Some b) = false
+equal_numbers (Some a) None = false
+equal_numbers (Some a) (Some b) = int_eq a b
+
 -- `==` never raises: integers and truth values are compared as integers, and None is equal to itself alone
 abbrev pub equal : Value → Value → Bool
-equal Nil Nil = true
-equal Nil (Truth c) = false
-equal Nil (Int z) = false
-equal (Truth b) Nil = false
-equal (Truth b) (Truth c) = int_eq (if b then pos 1 else pos 0) (if c then pos 1 else pos 0)
-equal (Truth b) (Int z) = int_eq (if b then pos 1 else pos 0) z
-equal (Int y) Nil = false
-equal (Int y) (Truth c) = int_eq y (if c then pos 1 else pos 0)
-equal (Int y) (Int z) = int_eq y z
+equal v w = equal_numbers (number v) (number w)
+
+abbrev pub answered : Bool → Outcome
+answered b = Returned (Truth b)
 
 abbrev pub compared : CompareOp → Value → Value → Outcome
-compared Equal v w = Returned (Truth (equal v w))
-compared NotEqual v w = Returned (Truth (not (equal v w)))
-compared Less v w = on_numbers (λ a b. Returned (Truth (int_lt a b))) (number v) (number w)
-compared LessEqual v w = on_numbers (λ a b. Returned (Truth (int_le a b))) (number v) (number w)
-compared Greater v w = on_numbers (λ a b. Returned (Truth (int_lt b a))) (number v) (number w)
-compared GreaterEqual v w = on_numbers (λ a b. Returned (Truth (int_le b a))) (number v) (number w)
+compared Equal v w = answered (equal v w)
+compared NotEqual v w = answered (not (equal v w))
+compared Less v w = on_numbers (λ a b. answered (int_lt a b)) (number v) (number w)
+compared LessEqual v w = on_numbers (λ a b. answered (int_le a b)) (number v) (number w)
+compared Greater v w = on_numbers (λ a b. answered (int_lt b a)) (number v) (number w)
+compared GreaterEqual v w = on_numbers (λ a b. answered (int_le b a)) (number v) (number w)
