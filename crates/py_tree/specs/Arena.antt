@@ -1,9 +1,10 @@
 -- The tree of each node of an arena.
-use Rattle.std.specs.Prelude.{◌≡◌, ◌<◌, ℕ, ◌+◌, List, [], ◌∷◌, ◌++◌, length, slice_index_or, slice_get, Some}
+use Rattle.std.specs.Prelude.{◌≡◌, ◌<◌, ℕ, ◌+◌, List, [], ◌∷◌, ◌++◌, slice_index_or}
 use Rattle.spec_trees.specs.Expr as tree
 use Rattle.spec_trees.specs.Expr.{Expr}
 use Rattle.py_tree.specs.declared.nodes.ExprNode.{ExprNode}
 use Rattle.py_tree.specs.declared.nodes.ExprNode.TheVariants as node
+use Rattle.py_tree.specs.declared.nodes.FnNode.{FnNode}
 
 -- the tree of a node, where t gives those of its parts
 abbrev pub node_tree : (ℕ → Expr) → ExprNode → Expr
@@ -28,6 +29,19 @@ AreFrom n (x ∷ xs) = ArePartsBelow n x × AreFrom (n + 1) xs
 
 abbrev pub IsArena : List ExprNode → Type 0
 IsArena nodes = AreFrom 0 nodes
+
+-- the expressions of a function are among the first n nodes
+abbrev pub IsFunctionBelow : ℕ → FnNode → Type 0
+IsFunctionBelow n f = (f.post.index < n) × (f.value.index < n)
+
+abbrev pub AreFunctionsBelow : ℕ → List FnNode → Type 0
+AreFunctionsBelow n [] = Unit {0}
+AreFunctionsBelow n (f ∷ fs) = IsFunctionBelow n f × AreFunctionsBelow n fs
+
+-- what a module holds
+pub record ModuleState : Type 0 where
+  pub nodes : List ExprNode
+  pub functions : List FnNode
 
 abbrev pub tree_in : List Expr → ℕ → Expr
 tree_in ts i = slice_index_or ts i (tree.integer 0)
