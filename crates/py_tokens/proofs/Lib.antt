@@ -1,0 +1,4 @@
+pub mod Values
+pub mod Sizes
+pub mod Fronts
+pub mod Cuts
