@@ -1,4 +1,5 @@
-ghost use Rattle.std.specs.Prelude.{◌≡◌, ◌≤◌, length, None, IfOk};
+ghost use Rattle.std.specs.Prelude.{◌≡◌, ◌≤◌, ◌<◌, length, None, IfOk, IfSome, IsErrOf};
+ghost use Rattle.xh_outside.specs.declared.errors.ReadError.TheVariants as read_error;
 
 use crate::{Bytes, Files, ReadError};
 use std::alloc::Global;
@@ -52,9 +53,7 @@ impl<R: rt::Files> Files for DiskFiles<R> {
     }
 }
 
-/// Reads a file in pieces up to the limit, so that one without an end, as a device, is too long and
-/// takes no more memory than any other. A read that was only interrupted is tried again. Whatever
-/// else the system refuses is `Failed`.
+/// Opens a file and reads it. Whatever the system refuses is `Failed`.
 fn read_file<R: rt::Files>(
     rt: &R,
     alloc: Global,
@@ -63,9 +62,23 @@ fn read_file<R: rt::Files>(
 ) -> Result<Bytes, ReadError>
     ensures bound { IfOk result (λ content. length content ≤ limit) }
 {
-    let Ok(mut file) = fs::open(rt, name) else {
-        return Err(ReadError::Failed);
-    };
+    match fs::open(rt, name) {
+        Ok(mut file) => read_to_limit(&mut file, alloc, limit),
+        Err(_) => Err(ReadError::Failed),
+    }
+}
+
+/// Reads to the end, in pieces and not far past the limit, so that a file without an end, as a
+/// device, is too long and takes no more memory than any other. A read that was only interrupted is
+/// tried again.
+fn read_to_limit<F: Read>(file: &mut F, alloc: Global, limit: u64) -> Result<Bytes, ReadError>
+    ensures bound { IfOk result (λ content. length content ≤ limit) }
+
+    // Where the bytes of the file are known, the content is all of them, and too long is a file
+    // that has more of them than the limit.
+    ensures whole { IfOk result (λ content. IfSome (F.remaining file.old) (λ bytes. content ≡ bytes)) }
+    ensures too_long { IsErrOf result read_error.TooLong → IfSome (F.remaining file.old) (λ bytes. limit < length bytes) }
+{
     let mut content = Bytes::new(alloc);
     let mut buffer = [0u8; PIECE_SIZE];
     for _ in 0..u64::MAX {

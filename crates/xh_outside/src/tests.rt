@@ -38,7 +38,7 @@ fn words_bytes_and_names_hold_what_they_are_given(rt: HostRuntime) -> Result<(),
     assert_eq!(rt; Name::from_str(alloc, "check")?.as_str(), "check");
 
     let mut words = Words::new(alloc);
-    assert_eq!(rt; words.len(), 0);
+    assert!(rt; words.is_empty());
     words.push(Name::from_str(alloc, "check")?)?;
     words.push(Name::from_str(alloc, "a.py")?)?;
     assert_eq!(rt; words.len(), 2);
