@@ -1,1 +1,3 @@
 pub mod Evaluation
+pub mod Judging
+pub mod Tries

@@ -47,7 +47,7 @@ fault_in (RaisedInBody c) = breaking.RaisedInBody c
 fault_in (RaisedInPost c) = breaking.RaisedInPost c
 
 abbrev pub verdict_in : Verdict → verdicts.Verdict
-verdict_in (Error z fault) = verdicts.Error (call_with z) (fault_in fault)
-verdict_in (NotConfirmed z k) = verdicts.NotConfirmed (call_with z) k
+verdict_in (Error c fault) = verdicts.Error (call_with c.argument) (fault_in fault)
+verdict_in (NotConfirmed c k) = verdicts.NotConfirmed (call_with c.argument) k
 verdict_in Unmet = verdicts.Unmet
 verdict_in Confirmed = verdicts.Confirmed

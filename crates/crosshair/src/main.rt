@@ -2,6 +2,7 @@
 #![tactic(auto)]
 
 mod admission;
+mod calls;
 mod evaluator;
 mod operations;
 mod verdicts;

@@ -1,0 +1,62 @@
+-- What judging one call answers for a condition.
+use Rattle.std.specs.Prelude.{◌≡◌, ℕ, ℤ, Bool, false, ◌&&◌, List, [], ◌∷◌, map, Option, Some, None}
+use Rattle.spec_trees.specs.declared.LimitKind.{LimitKind}
+use Rattle.spec_trees.specs.Bounds.{Bounds}
+use Rattle.spec_trees.specs.Program.{Function, Condition}
+use Rattle.spec_running.specs.declared.Value.{Value}
+use Rattle.spec_running.specs.declared.Value.TheVariants.{Int}
+use Rattle.spec_running.specs.declared.Outcome.{Outcome}
+use Rattle.spec_calls.specs.Calls.{Call}
+use Rattle.spec_contracts.specs.Forms.{Form}
+use Rattle.spec_contracts.specs.Admission.{function_of}
+use Rattle.spec_verdicts.specs.Judging.{body_of}
+use Rattle.spec_verdicts.specs.Breaking.{broken, limited, is_unmet, line_fault, line_limit}
+use Rattle.spec_verdicts.specs.Breaking as breaking
+use Rattle.spec_verdicts.specs.Verdicts.{first_of}
+use Rattle.crosshair.specs.declared.calls.Call as declared
+use Rattle.crosshair.specs.declared.verdicts.Judgement.{Judgement}
+use Rattle.crosshair.specs.declared.verdicts.Judgement.TheVariants.{Held, Broken, Limited}
+use Rattle.crosshair.specs.Meaning.{call_with, fault_in}
+
+-- the body of the form ends so on this argument, with nothing on the heap
+pub record EndsBody (form : Form) (z : ℤ) (bounds : Bounds) (outcome : Outcome) : Type 0 where
+  pub is : (body_of (function_of form) (Int z ∷ []) bounds).outcome ≡ outcome
+  pub heap : (body_of (function_of form) (Int z ∷ []) bounds).after.heap ≡ []
+
+abbrev pub broken_by : Judgement → Option breaking.Fault
+broken_by Held = None
+broken_by (Broken fault) = Some (fault_in fault)
+broken_by (Limited kind) = None
+
+abbrev pub limited_by : Judgement → Option LimitKind
+limited_by Held = None
+limited_by (Broken fault) = None
+limited_by (Limited kind) = Some kind
+
+-- the call meets the preconditions, and the judgement says what breaks the condition and what limits it
+pub record IsJudged (f : Function) (k : Condition) (bounds : Bounds) (c : Call) (judgement : Judgement) : Type 0 where
+  pub broken : broken f k bounds c ≡ broken_by judgement
+  pub limited : limited f k bounds c ≡ limited_by judgement
+  pub met : is_unmet f bounds c ≡ false
+
+-- the same for a post line that ended with an outcome, where the body returned a value
+pub record IsLineJudged (returned : Value) (outcome : Outcome) (judgement : Judgement) : Type 0 where
+  pub broken : line_fault returned outcome ≡ broken_by judgement
+  pub limited : line_limit outcome ≡ limited_by judgement
+
+abbrev pub calls_in : List declared.Call → List Call
+calls_in cs = map (λ c. call_with c.argument) cs
+
+-- the first of both, where there is one
+abbrev pub earlier : {X : Type 0} → Option X → Option X → Option X
+earlier (Some x) o = Some x
+earlier None o = o
+
+abbrev pub limit_at : declared.Call → Option LimitKind → Option (declared.Call × LimitKind)
+limit_at c None = None
+limit_at c (Some kind) = Some (c, kind)
+
+-- a kept call with its limit
+abbrev pub kept : Option (declared.Call × LimitKind) → Option (Call × LimitKind)
+kept None = None
+kept (Some x) = Some (call_with x.0.argument, x.1)
