@@ -1,11 +1,12 @@
 -- What the types of this crate mean to the definitions.
 use Rattle.std.specs.Prelude.{ℕ, ℤ, Bool, List, [], ◌∷◌, map, Option, Some, None}
+use Rattle.std.specs.Borrow.{Bor}
 use Rattle.spec_trees.specs.Program.{Function}
 use Rattle.spec_trees.specs.Program as program
 use Rattle.spec_running.specs.States.{Locals}
 use Rattle.spec_running.specs.declared.Value.{Value}
 use Rattle.spec_calls.specs.Calls.{Call, Number}
-use Rattle.spec_contracts.specs.Forms.{Form}
+use Rattle.spec_contracts.specs.Forms.{Form, Head}
 use Rattle.spec_contracts.specs.Admission.{function_of}
 use Rattle.spec_verdicts.specs.Breaking as breaking
 use Rattle.spec_verdicts.specs.Verdicts as verdicts
@@ -19,9 +20,15 @@ use Rattle.crosshair.specs.declared.verdicts.Verdict.TheVariants.{Error, NotConf
 use Rattle.crosshair.specs.declared.verdicts.Condition.{Condition}
 use Rattle.crosshair.specs.declared.verdicts.Condition.TheVariants.{Raises, Post}
 
+abbrev pub texts_of : List (Bor (List ℕ)) → List (List ℕ)
+texts_of names = map (λ n. n.now) names
+
+abbrev pub head_in : FnNode → Head
+head_in f = record { name = f.name; parameter = f.parameter }
+
 -- a function node as the form of its file
 abbrev pub form_in : List ExprNode → FnNode → Form
-form_in nodes f = record { head = record { name = f.name; parameter = f.parameter }; post = shown nodes f.post.index; value = shown nodes f.value.index }
+form_in nodes f = record { head = head_in f; post = shown nodes f.post.index; value = shown nodes f.value.index }
 
 -- the checked function of a node
 abbrev pub function_in : List ExprNode → FnNode → Function

@@ -4,6 +4,7 @@
 mod admission;
 mod calls;
 mod evaluator;
+mod names;
 mod operations;
 mod verdicts;
 

@@ -9,14 +9,12 @@ ghost use Rattle.crosshair.specs.Judges.{EndsBody, IsJudged, IsLineJudged, calls
 
 use crate::calls::{Call, listing};
 use crate::evaluator::{Local, evaluate};
+use crate::names::RETURNED;
 use crate::operations::truth;
 use py_tree::{Bounds, ExcClass, FnNode, LimitKind, Module};
 use spec_running::{Outcome, Value};
 use std::alloc::Global;
 use xh_outside::NoMemory;
-
-/// The name of the returned value in a post line (PEP 316).
-const RETURNED: &[u8] = b"__return__";
 
 /// A condition of a function.
 #[derive(Clone, Copy, Debug, PartialEq, Eq)]

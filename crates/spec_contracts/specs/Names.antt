@@ -25,10 +25,10 @@ names_among names (compare op a b) = names_among names a && names_among names b
 names_among names (group a) = names_among names a
 
 -- a function may have any name but those of the built-in functions and of the returned value, and a parameter any but the latter
-abbrev pub is_def_named : Head → Bool
-is_def_named d = not (is_builtin d.name) && not (bytes_eq d.name returned_name) && not (bytes_eq d.parameter returned_name)
+abbrev pub is_head_named : Head → Bool
+is_head_named d = not (is_builtin d.name) && not (bytes_eq d.name returned_name) && not (bytes_eq d.parameter returned_name)
 
 -- The first line that breaks a rule on names. A post line may name the parameter and the returned value, and the body the parameter.
 unfoldable pub broken_line : Form → Option ℕ
 broken_line f =
-    if not (is_def_named f.head) then Some 1 else (if not (names_among (f.head.parameter ∷ returned_name ∷ []) f.post) then Some 2 else (if not (names_among (f.head.parameter ∷ []) f.value) then Some 3 else None))
+    if not (is_head_named f.head) then Some 1 else (if not (names_among (f.head.parameter ∷ returned_name ∷ []) f.post) then Some 2 else (if not (names_among (f.head.parameter ∷ []) f.value) then Some 3 else None))
