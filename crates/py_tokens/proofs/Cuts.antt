@@ -79,6 +79,7 @@ pub not_plain : (line : List ℕ) → list_all is_plain line ≡ false → words
 unfolding words_of
 not_plain line h = rw h refl
 
+-- words behind an indent are those words indented
 indented_behind : (n : ℕ) (o : Option (List Word)) → behind (indented n []) o ≡ option_map (indented n) o
 indented_behind n None = refl
 indented_behind n (Some words) = at (n == 0)

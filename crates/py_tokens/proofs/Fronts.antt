@@ -47,6 +47,7 @@ before_step [] i lt h = absurd (omega arith)
 before_step (c ∷ s) zero lt h = rw h refl
 before_step (c ∷ s) (suc i) lt h = let e : suc i + 1 ≡ suc (i + 1) = omega arith in rw e (before_step s i (omega arith) h)
 
+-- one letter more before the quotes, and one less
 one_more : (i : ℕ) (o : Option ℕ) → option_map (λ n. i + n) (option_map suc o) ≡ option_map (λ n. i + 1 + n) o
 one_more i None = refl
 one_more i (Some n) = let e : i + suc n ≡ i + 1 + n = omega arith in ap Some e
