@@ -1,3 +1,4 @@
 pub mod Evaluation
 pub mod Judging
+pub mod Programs
 pub mod Tries

@@ -6,13 +6,14 @@ use Rattle.spec_trees.specs.Program as program
 use Rattle.spec_running.specs.States.{Locals}
 use Rattle.spec_running.specs.declared.Value.{Value}
 use Rattle.spec_calls.specs.Calls.{Call, Number}
-use Rattle.spec_contracts.specs.Forms.{Form, Head}
+use Rattle.spec_contracts.specs.Forms.{Head}
 use Rattle.spec_contracts.specs.Admission.{function_of}
 use Rattle.spec_verdicts.specs.Breaking as breaking
 use Rattle.spec_verdicts.specs.Verdicts as verdicts
 use Rattle.py_tree.specs.declared.nodes.ExprNode.{ExprNode}
 use Rattle.py_tree.specs.declared.nodes.FnNode.{FnNode}
 use Rattle.py_tree.specs.Arena.{shown}
+use Rattle.py_parser.specs.Answers.{form_in}
 use Rattle.crosshair.specs.declared.verdicts.Fault.{Fault}
 use Rattle.crosshair.specs.declared.verdicts.Fault.TheVariants.{WasFalse, RaisedInBody, RaisedInPost}
 use Rattle.crosshair.specs.declared.verdicts.Verdict.{Verdict}
@@ -25,10 +26,6 @@ texts_of names = map (λ n. n.now) names
 
 abbrev pub head_in : FnNode → Head
 head_in f = record { name = f.name; parameter = f.parameter }
-
--- a function node as the form of its file
-abbrev pub form_in : List ExprNode → FnNode → Form
-form_in nodes f = record { head = head_in f; post = shown nodes f.post.index; value = shown nodes f.value.index }
 
 -- the checked function of a node
 abbrev pub function_in : List ExprNode → FnNode → Function

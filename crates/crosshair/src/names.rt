@@ -4,7 +4,8 @@ ghost use Rattle.std.specs.List.{list_any};
 ghost use Rattle.std.specs.Str.{bytes_eq};
 ghost use Rattle.spec_contracts.specs.Names.{is_builtin, is_among, names_among, is_head_named, broken_line};
 ghost use Rattle.py_tree.specs.Arena.{shown};
-ghost use Rattle.crosshair.specs.Meaning.{form_in, head_in, texts_of};
+ghost use Rattle.py_parser.specs.Answers.{form_in};
+ghost use Rattle.crosshair.specs.Meaning.{head_in, texts_of};
 
 use py_tree::{ExprId, ExprNode, FnNode, Module};
 use spec_contracts::BUILTINS;

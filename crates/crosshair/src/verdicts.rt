@@ -4,7 +4,8 @@ ghost use Rattle.spec_verdicts.specs.Breaking.{line_outcome};
 ghost use Rattle.spec_verdicts.specs.Verdicts.{verdict, verdict_over, undecided};
 ghost use Rattle.py_tree.specs.Arena.{shown};
 ghost use Rattle.py_tree.specs.BoundsOf.{bounds_of};
-ghost use Rattle.crosshair.specs.Meaning.{form_in, function_in, condition_in, call_with, verdict_in};
+ghost use Rattle.py_parser.specs.Answers.{form_in};
+ghost use Rattle.crosshair.specs.Meaning.{function_in, condition_in, call_with, verdict_in};
 ghost use Rattle.crosshair.specs.Judges.{EndsBody, IsJudged, IsLineJudged, calls_in, kept};
 
 use crate::calls::{Call, listing};

@@ -4,7 +4,7 @@ use Rattle.spec_running.specs.declared.Value.TheVariants.{Int}
 use Rattle.py_tree.specs.Arena.{shown}
 use Rattle.py_tree.specs.BoundsOf.{bounds_of}
 use Rattle.crosshair.specs.Evaluates.{RunsTo}
-use Rattle.crosshair.specs.Meaning.{form_in}
+use Rattle.py_parser.specs.Answers.{form_in}
 use Rattle.crosshair.proofs.Judging.{body_is}
 use Rattle.crosshair.proofs.verdicts.run_body.Goals as goal
 
