@@ -1,0 +1,4 @@
+pub mod FileSteps
+pub mod LineParts
+pub mod Turns
+pub mod Whole

@@ -1,0 +1,21 @@
+use xh_outside::NoMemory;
+
+/// Why a text is not read.
+#[derive(Clone, Copy, Debug, PartialEq, Eq)]
+pub enum SyntaxError {
+    /// The line of this number, counted from 1, is the first that is not one of those that can be read.
+    NotBuilt(u32),
+    /// There is no memory for the nodes.
+    NoMemory,
+}
+
+impl From<NoMemory> for SyntaxError {
+    ghost use Rattle.std.specs.Prelude.{◌≡◌};
+    ghost use Rattle.py_parser.specs.declared.errors.SyntaxError.TheVariants as syntax_error;
+
+    ghost from_gives = { λ _ e. e ≡ syntax_error.NoMemory };
+
+    fn from(_: NoMemory) -> Self {
+        SyntaxError::NoMemory
+    }
+}
