@@ -1,5 +1,5 @@
 -- How calls and values are printed.
-use Rattle.std.specs.Prelude.{ℕ, Bool, true, false, List, [], ◌∷◌, ◌++◌, codes, if◌then◌else◌}
+use Rattle.std.specs.Prelude.{ℕ, List, [], ◌∷◌, ◌++◌, codes, if◌then◌else◌}
 use Rattle.std.specs.Fmt.{signed_decimal}
 use Rattle.spec_trees.specs.Program.{Parameter, Function}
 use Rattle.spec_running.specs.declared.Value.{Value}
@@ -20,10 +20,10 @@ named name a = name ++ codes " = " ++ argument_text a
 
 -- `P1 = A1, P2 = A2`
 abbrev pub arguments_text : List Parameter → Call → List ℕ
-arguments_text [] as' = []
+arguments_text [] c = []
 arguments_text (p ∷ ps) [] = []
-arguments_text (p ∷ []) (a ∷ rest) = named p.name a
-arguments_text (p ∷ q ∷ ps) (a ∷ rest) = named p.name a ++ codes ", " ++ arguments_text (q ∷ ps) rest
+arguments_text (p ∷ []) (a ∷ c) = named p.name a
+arguments_text (p ∷ q ∷ ps) (a ∷ c) = named p.name a ++ codes ", " ++ arguments_text (q ∷ ps) c
 
 -- a call is printed as `NAME(P1 = A1, P2 = A2)`
 unfoldable pub printed : Function → Call → List ℕ

@@ -2,9 +2,8 @@
 use Rattle.std.specs.Prelude.{ℕ, List, [], ◌∷◌, Option, Some, None, Result, Ok, Err}
 use Rattle.spec_tokens.specs.declared.Word.{Word}
 use Rattle.spec_tokens.specs.Words.{tokens}
-use Rattle.spec_trees.specs.Expr.{Expr}
-use Rattle.spec_trees.specs.Program.{Program, Function, Parameter, Integer, Numbered, Text, Return, Condition, Raises, Post}
-use Rattle.spec_contracts.specs.Forms.{Form, Head, form_of}
+use Rattle.spec_trees.specs.Program.{Program, Function, Integer, Return, Raises, Post}
+use Rattle.spec_contracts.specs.Forms.{Form, form_of}
 use Rattle.spec_contracts.specs.Names.{broken_line}
 
 -- The function of a file. Condition 0 stands at its `def` line, and the post condition at its own.

@@ -2,7 +2,7 @@
 --   def NAME(NAME: int) -> KIND:
 --       """post: EXPR"""
 --       return EXPR
-use Rattle.std.specs.Prelude.{ℕ, ◌-◌, Bool, ◌||◌, List, [], ◌∷◌, ◌==◌, drop, take, length, nat_eq, slice_get, Option, Some, None, Result, Ok, Err, codes, if◌then◌else◌}
+use Rattle.std.specs.Prelude.{ℕ, ◌-◌, List, [], ◌∷◌, ◌==◌, drop, take, length, nat_eq, Option, Some, None, Result, Ok, Err, codes, if◌then◌else◌}
 use Rattle.std.specs.List.{starts_with, list_any}
 use Rattle.std.specs.Str.{bytes_eq}
 use Rattle.spec_tokens.specs.declared.Mark.TheVariants.{OpenParen, CloseParen, Colon, Arrow, Def, Return, Newline}

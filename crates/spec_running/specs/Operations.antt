@@ -1,5 +1,5 @@
 -- Operations on values (Python 3.12 language reference, "Binary arithmetic operations" and "Value comparisons").
-use Rattle.std.specs.Prelude.{ℕ, ◌^◌, ℤ, pos, negsuc, ◌+ℤ◌, ◌-ℤ◌, ◌*ℤ◌, Bool, true, false, not, List, Option, Some, None, nat_lt, if◌then◌else◌, int_lt, int_le}
+use Rattle.std.specs.Prelude.{◌^◌, ℤ, pos, negsuc, ◌+ℤ◌, ◌-ℤ◌, ◌*ℤ◌, Bool, true, false, not, Option, Some, None, nat_lt, if◌then◌else◌, int_lt, int_le}
 use Rattle.std.specs.Ordering.{int_eq}
 use Rattle.spec_trees.specs.declared.BinaryOp.{BinaryOp}
 use Rattle.spec_trees.specs.declared.BinaryOp.TheVariants.{Add, Subtract, Multiply}

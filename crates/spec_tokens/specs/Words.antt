@@ -1,11 +1,11 @@
 -- The words of a text, line by line.
-use Rattle.std.specs.Prelude.{ℕ, Bool, option_and_then, zero, suc, ◌+◌, ◌-◌, ◌==◌, List, [], ◌∷◌, drop, Option, Some, None, Result, Ok, Err, if◌then◌else◌}
+use Rattle.std.specs.Prelude.{ℕ, Bool, option_and_then, zero, suc, ◌+◌, ◌-◌, ◌==◌, List, [], ◌∷◌, Option, Some, None, Result, Ok, Err, if◌then◌else◌}
 use Rattle.std.specs.List.{list_all}
 use Rattle.std.specs.Option.{option_map}
 use Rattle.spec_tokens.specs.declared.Word.{Word}
 use Rattle.spec_tokens.specs.declared.Word.TheVariants.{Indent}
 use Rattle.spec_tokens.specs.Letters.{is_plain, run}
-use Rattle.spec_tokens.specs.Pieces.{Piece, piece_of}
+use Rattle.spec_tokens.specs.Pieces.{piece_of}
 
 -- a text is cut behind each line feed
 abbrev pub begun_with : ℕ → List (List ℕ) → List (List ℕ)

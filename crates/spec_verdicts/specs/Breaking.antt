@@ -1,5 +1,5 @@
 -- What breaks a condition, and what limits it.
-use Rattle.std.specs.Prelude.{ℕ, Bool, true, false, List, [], ◌∷◌, ◌++◌, map, Option, Some, None, if◌then◌else◌}
+use Rattle.std.specs.Prelude.{Bool, true, false, [], ◌∷◌, ◌++◌, map, Option, Some, None, if◌then◌else◌}
 use Rattle.spec_trees.specs.declared.ExcClass.{ExcClass}
 use Rattle.spec_trees.specs.declared.LimitKind.{LimitKind}
 use Rattle.spec_trees.specs.Bounds.{Bounds}
@@ -8,7 +8,7 @@ use Rattle.spec_trees.specs.Program.{Function, Condition, Raises, Post}
 use Rattle.spec_running.specs.declared.Value.{Value}
 use Rattle.spec_running.specs.declared.Outcome.{Outcome}
 use Rattle.spec_running.specs.declared.Outcome.TheVariants.{Returned, Raised, Limit}
-use Rattle.spec_running.specs.States.{Heap, Locals, Ran}
+use Rattle.spec_running.specs.States.{Heap, Locals}
 use Rattle.spec_running.specs.Operations.{truth}
 use Rattle.spec_running.specs.Running.{eval, fresh, bound}
 use Rattle.spec_calls.specs.Calls.{Call, made}

@@ -1,5 +1,5 @@
 -- Judging one call.
-use Rattle.std.specs.Prelude.{ℕ, List, [], ◌∷◌, map, Option, Some, None, unwrap_or, if◌then◌else◌}
+use Rattle.std.specs.Prelude.{List, [], ◌∷◌, map, Option, Some, None, unwrap_or, if◌then◌else◌}
 use Rattle.spec_trees.specs.declared.LimitKind.{LimitKind}
 use Rattle.spec_trees.specs.Bounds.{Bounds}
 use Rattle.spec_trees.specs.Expr.{Expr}

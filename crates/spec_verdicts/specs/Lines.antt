@@ -1,5 +1,5 @@
 -- The lines that are written. A line ends with a line feed.
-use Rattle.std.specs.Prelude.{ℕ, List, [], ◌∷◌, ◌++◌, codes}
+use Rattle.std.specs.Prelude.{ℕ, List, [], ◌++◌, codes}
 use Rattle.std.specs.Fmt.{decimal}
 use Rattle.spec_trees.specs.declared.ExcClass.{ExcClass}
 use Rattle.spec_trees.specs.declared.ExcClass.TheVariants.{Exception, ArithmeticError, ZeroDivisionError, LookupError, IndexError, KeyError, ValueError, TypeError, AttributeError, NameError, UnboundLocalError, AssertionError, RuntimeError, NotImplementedError}

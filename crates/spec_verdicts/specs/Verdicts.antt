@@ -1,5 +1,5 @@
 -- The verdict of a condition over all calls within the bounds.
-use Rattle.std.specs.Prelude.{ℕ, Bool, List, [], ◌∷◌, Option, Some, None, if◌then◌else◌}
+use Rattle.std.specs.Prelude.{Bool, List, [], ◌∷◌, Option, Some, None, if◌then◌else◌}
 use Rattle.std.specs.List.{list_all}
 use Rattle.spec_trees.specs.declared.LimitKind.{LimitKind}
 use Rattle.spec_trees.specs.Bounds.{Bounds}
