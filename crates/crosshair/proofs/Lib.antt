@@ -1,4 +1,7 @@
+pub mod Commands
 pub mod Evaluation
 pub mod Judging
+pub mod Laws
 pub mod Programs
+pub mod Texts
 pub mod Tries

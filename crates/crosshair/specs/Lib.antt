@@ -1,4 +1,7 @@
 pub mod Answers
-pub mod Meaning
+pub mod Ends
 pub mod Evaluates
 pub mod Judges
+pub mod Meaning
+pub mod SettingsOf
+pub mod Texts

@@ -1,0 +1,81 @@
+-- Laws of the texts of a report.
+use Rattle.std.proofs.Common.{◌≡◌, ℕ, ◌+◌, ℤ, Bool, ◌||◌, List, [], ◌∷◌, ◌++◌, take, map, append_assoc, ap, sym, ◌∙◌, arith}
+use Rattle.std.proofs.Math.Bool.{or-false}
+use Rattle.std.proofs.lemmas.Grind.{common_steps, flat_map-append}
+use Rattle.std.proofs.lemmas.List.{append-nil, take_more}
+use Rattle.std.proofs.lemmas.List.Folds.{list_any-append}
+use Rattle.std.proofs.lemmas.Option.{gets, slice_get-map}
+use Rattle.std.specs.Prelude.{codes, slice_get, Some}
+use Rattle.std.specs.Option.{option_map}
+use Rattle.std.specs.List.{flat_map, list_any}
+use Rattle.std.specs.Fmt.{decimal, signed_decimal}
+use Rattle.spec_trees.specs.Bounds.{Bounds}
+use Rattle.spec_trees.specs.Program.{Function}
+use Rattle.spec_calls.specs.Calls.{Call}
+use Rattle.spec_calls.specs.Printing.{printed}
+use Rattle.spec_verdicts.specs.Breaking.{Fault}
+use Rattle.spec_verdicts.specs.Lines.{error_line, fault_text}
+use Rattle.spec_verdicts.specs.Report.{function_text, has_error}
+use Rattle.py_tree.specs.declared.nodes.ExprNode.{ExprNode}
+use Rattle.py_tree.specs.declared.nodes.FnNode.{FnNode}
+use Rattle.crosshair.specs.declared.verdicts.Condition.TheVariants.{Raises, Post}
+use Rattle.crosshair.specs.Meaning.{call_with, function_in, condition_in}
+use Rattle.crosshair.specs.Texts.{condition_text, condition_fails}
+
+-- the text of a call with one argument
+pub call_text : (nodes : List ExprNode) (f : FnNode) (z : ℤ) → printed (function_in nodes f) (call_with z) ≡ f.name ++ (codes "(" ++ (f.parameter ++ (codes " = " ++ (signed_decimal z ++ codes ")"))))
+unfolding printed
+call_text nodes f z = simp append_assoc
+
+-- three pieces are appended one after the other
+pub three_added : (t t1 t2 t3 a b d : List ℕ) → t1 ≡ t ++ a → t2 ≡ t1 ++ b → t3 ≡ t2 ++ d → t3 ≡ t ++ ((a ++ b) ++ d)
+three_added t t1 t2 t3 a b d e1 e2 e3 = simp (e3, e2, e1, append_assoc)
+
+-- a call is appended in four pieces
+pub call_added : (nodes : List ExprNode) (f : FnNode) (z : ℤ) (t t1 t2 t3 t4 name parameter rest : List ℕ) → t1 ≡ t ++ name → name ≡ f.name → t2 ≡ t1 ++ codes "(" → t3 ≡ t2 ++ parameter → parameter ≡ f.parameter → t4 ≡ t3 ++ rest → rest ≡ codes " = " ++ (signed_decimal z ++ codes ")") → t4 ≡ t ++ printed (function_in nodes f) (call_with z)
+call_added nodes f z t t1 t2 t3 t4 name parameter rest e1 n e2 e3 p e4 r = simp (e4, e3, e2, e1, n, p, r, call_text, append_assoc)
+
+-- the line of an error in three pieces
+pub error_added : (name : List ℕ) (line : ℕ) (f : Function) (c : Call) (fault : Fault) (head t1 t2 t3 : List ℕ) → t1 ≡ head → head ≡ name ++ (codes ":" ++ (decimal line ++ codes ": error: ")) → t2 ≡ t1 ++ fault_text f c fault → t3 ≡ t2 ++ codes "\n" → t3 ≡ error_line name line f c fault
+unfolding error_line
+error_added name line f c fault head t1 t2 t3 e1 h e2 e3 = simp (e3, e2, e1, h, append_assoc)
+
+-- a function has two conditions
+pub function_parts : (name : List ℕ) (bounds : Bounds) (nodes : List ExprNode) (f : FnNode) → function_text name bounds (function_in nodes f) ≡ condition_text name bounds (function_in nodes f) (condition_in nodes f Raises) ++ condition_text name bounds (function_in nodes f) (condition_in nodes f Post)
+unfolding function_text
+function_parts name bounds nodes f = ap (λ x. condition_text name bounds (function_in nodes f) (condition_in nodes f Raises) ++ x) (append-nil _)
+
+-- the text of a function is appended in two pieces
+pub function_added : (name : List ℕ) (bounds : Bounds) (nodes : List ExprNode) (f : FnNode) (t t1 t2 : List ℕ) → t1 ≡ t ++ condition_text name bounds (function_in nodes f) (condition_in nodes f Raises) → t2 ≡ t1 ++ condition_text name bounds (function_in nodes f) (condition_in nodes f Post) → t2 ≡ t ++ function_text name bounds (function_in nodes f)
+function_added name bounds nodes f t t1 t2 e1 e2 =
+    let first : List ℕ = condition_text name bounds (function_in nodes f) (condition_in nodes f Raises) in
+    let second : List ℕ = condition_text name bounds (function_in nodes f) (condition_in nodes f Post) in
+    e2 ∙ ap (λ x. x ++ second) e1 ∙ append_assoc t first second ∙ ap (λ x. t ++ x) (sym (function_parts name bounds nodes f))
+
+-- one of the two conditions is an error
+pub has_error_parts : (bounds : Bounds) (nodes : List ExprNode) (f : FnNode) → has_error bounds (function_in nodes f) ≡ (condition_fails bounds (function_in nodes f) (condition_in nodes f Raises) || condition_fails bounds (function_in nodes f) (condition_in nodes f Post))
+unfolding has_error
+has_error_parts bounds nodes f = ap (λ x. condition_fails bounds (function_in nodes f) (condition_in nodes f Raises) || x) (or-false _)
+
+-- the first functions and the next one
+pub take_item : {X : Type 0} (xs : List X) (i : ℕ) (x : X) → slice_get xs i ≡ Some x → take (i + 1) xs ≡ take i xs ++ x ∷ []
+take_item xs i x h = grind (arith, common_steps, gets, take_more)
+
+-- the program's next function
+pub next_function : (nodes : List ExprNode) (fs : List FnNode) (i : ℕ) (f : FnNode) → slice_get fs i ≡ Some f → take (i + 1) (map (function_in nodes) fs) ≡ take i (map (function_in nodes) fs) ++ function_in nodes f ∷ []
+next_function nodes fs i f h = take_item (map (function_in nodes) fs) i (function_in nodes f) (slice_get-map (function_in nodes) fs i ∙ ap (option_map (function_in nodes)) h)
+
+-- the text of one more function
+pub text_more : (name : List ℕ) (bounds : Bounds) (nodes : List ExprNode) (fs : List FnNode) (i : ℕ) (f : FnNode) (old now new : List ℕ) → slice_get fs i ≡ Some f → now ≡ old ++ flat_map (function_text name bounds) (take i (map (function_in nodes) fs)) → new ≡ now ++ function_text name bounds (function_in nodes f) → new ≡ old ++ flat_map (function_text name bounds) (take (i + 1) (map (function_in nodes) fs))
+text_more name bounds nodes fs i f old now new h e g =
+    let before : List Function = take i (map (function_in nodes) fs) in
+    let text : List ℕ = function_text name bounds (function_in nodes f) in
+    let all : flat_map (function_text name bounds) (take (i + 1) (map (function_in nodes) fs)) ≡ flat_map (function_text name bounds) before ++ text =
+    ap (flat_map (function_text name bounds)) (next_function nodes fs i f h) ∙ flat_map-append (function_text name bounds) before (function_in nodes f ∷ []) ∙ ap (λ x. flat_map (function_text name bounds) before ++ x) (append-nil text) in
+    g ∙ ap (λ x. x ++ text) e ∙ append_assoc old (flat_map (function_text name bounds) before) text ∙ ap (λ x. old ++ x) (sym all)
+
+-- whether one more function has an error
+pub fails_more : (bounds : Bounds) (nodes : List ExprNode) (fs : List FnNode) (i : ℕ) (f : FnNode) (now here : Bool) → slice_get fs i ≡ Some f → now ≡ list_any (has_error bounds) (take i (map (function_in nodes) fs)) → here ≡ has_error bounds (function_in nodes f) → (now || here) ≡ list_any (has_error bounds) (take (i + 1) (map (function_in nodes) fs))
+fails_more bounds nodes fs i f now here h e g =
+    let before : List Function = take i (map (function_in nodes) fs) in
+    ap (λ x. x || here) e ∙ ap (λ x. list_any (has_error bounds) before || x) (g ∙ sym (or-false _)) ∙ sym (list_any-append (has_error bounds) before (function_in nodes f ∷ [])) ∙ ap (list_any (has_error bounds)) (sym (next_function nodes fs i f h))

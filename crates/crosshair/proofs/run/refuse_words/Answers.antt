@@ -1,0 +1,7 @@
+use Rattle.std.proofs.Common.{rules}
+use Rattle.crosshair.proofs.Laws.{cut_err, ends_write_fault}
+use Rattle.crosshair.proofs.run.refuse_words.Goals as goal
+
+pub returns-in_err-write_all-clause-ends : goal.returns-in_err-write_all-clause-ends
+returns-in_err-write_all-clause-ends g c =
+    ends_write_fault _ _ _ _ _ _ _ _ c.from_residual.ensures.1 (cut_err _ _ _ _ _ c.in_err-write_all.ensures.part (search rules))

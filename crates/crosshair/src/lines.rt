@@ -1,0 +1,122 @@
+ghost use Rattle.std.specs.Prelude.{◌≡◌, ◌++◌, List, IfOk, OnOk};
+ghost use Rattle.spec_calls.specs.Printing.{printed, shown};
+ghost use Rattle.spec_verdicts.specs.Lines.{class_name, error_line, fault_text, refusal_line, which_returns};
+ghost use Rattle.py_tree.specs.declared.nodes.ExprNode.{ExprNode};
+ghost use Rattle.crosshair.specs.Meaning.{call_with, fault_in, function_in};
+
+use crate::verdicts::Fault;
+use py_tree::{ExcClass, FnNode};
+use spec_running::Value;
+use std::alloc::Global;
+use xh_outside::{Bytes, NoMemory};
+
+/// The line `NAME:LINE: refused: KIND`. The only error is that there is no memory for it.
+pub fn refusal_line(alloc: Global, name: &str, line: u32, kind: &str) -> Result<Bytes, NoMemory>
+    ensures { IfOk result (λ text. text ≡ refusal_line name.now line kind.now) }
+{
+    let mut text = Bytes::new(alloc);
+    text.extend(format!(in alloc; "{name}:{line}: refused: {kind}\n")?.as_bytes())?;
+    Ok(text)
+}
+
+/// The line `NAME:LINE: error: TEXT`, where the call with this argument breaks a condition of the
+/// function. The only error is that there is no memory for it.
+pub fn error_line(
+    alloc: Global,
+    name: &str,
+    line: u32,
+    function: &FnNode,
+    argument: i64,
+    fault: Fault,
+) -> Result<Bytes, NoMemory>
+    ensures { IfOk result (λ text. (nodes : List ExprNode) → text ≡ error_line name.now line (function_in nodes function.now) (call_with argument) (fault_in fault)) }
+{
+    let mut text = Bytes::new(alloc);
+    text.extend(format!(in alloc; "{name}:{line}: error: ")?.as_bytes())?;
+    add_fault(alloc, &mut text, function, argument, fault)?;
+    text.extend(b"\n")?;
+    Ok(text)
+}
+
+/// Appends what breaks a condition in the call with this argument.
+fn add_fault(
+    alloc: Global,
+    text: &mut Bytes,
+    function: &FnNode,
+    argument: i64,
+    fault: Fault,
+) -> Result<(), NoMemory>
+    ensures { OnOk result ((nodes : List ExprNode) → text.new ≡ text.old ++ fault_text (function_in nodes function.now) (call_with argument) (fault_in fault)) }
+{
+    match fault {
+        Fault::WasFalse(value) => {
+            text.extend(b"false when calling ")?;
+            add_call(alloc, text, function, argument)?;
+            add_returned(alloc, text, value)?;
+        }
+        Fault::RaisedInBody(class) => {
+            text.extend(class_name(class).as_bytes())?;
+            text.extend(b" when calling ")?;
+            add_call(alloc, text, function, argument)?;
+        }
+        Fault::RaisedInPost(class) => {
+            text.extend(class_name(class).as_bytes())?;
+            text.extend(b" in postcondition when calling ")?;
+            add_call(alloc, text, function, argument)?;
+        }
+    }
+    Ok(())
+}
+
+/// Appends the call `NAME(PARAMETER = ARGUMENT)`.
+fn add_call(
+    alloc: Global,
+    text: &mut Bytes,
+    function: &FnNode,
+    argument: i64,
+) -> Result<(), NoMemory>
+    ensures { OnOk result ((nodes : List ExprNode) → text.new ≡ text.old ++ printed (function_in nodes function.now) (call_with argument)) }
+{
+    text.extend(function.name.as_slice())?;
+    text.extend(b"(")?;
+    text.extend(function.parameter.as_slice())?;
+    text.extend(format!(in alloc; " = {argument})")?.as_bytes())?;
+    Ok(())
+}
+
+/// Appends the value that was returned, unless it is None.
+fn add_returned(alloc: Global, text: &mut Bytes, value: Value) -> Result<(), NoMemory>
+    ensures { OnOk result (text.new ≡ text.old ++ which_returns value) }
+{
+    match value {
+        Value::Nil => Ok(()),
+        Value::Bool(true) => text.extend(b" (which returns True)"),
+        Value::Bool(false) => text.extend(b" (which returns False)"),
+        Value::Int(number) => {
+            text.extend(format!(in alloc; " (which returns {number})")?.as_bytes())?;
+            Ok(())
+        }
+    }
+}
+
+/// The name of an exception class.
+fn class_name(class: ExcClass) -> &'static str
+    ensures { result.now ≡ class_name class }
+{
+    match class {
+        ExcClass::Exception => "Exception",
+        ExcClass::ArithmeticError => "ArithmeticError",
+        ExcClass::ZeroDivisionError => "ZeroDivisionError",
+        ExcClass::LookupError => "LookupError",
+        ExcClass::IndexError => "IndexError",
+        ExcClass::KeyError => "KeyError",
+        ExcClass::ValueError => "ValueError",
+        ExcClass::TypeError => "TypeError",
+        ExcClass::AttributeError => "AttributeError",
+        ExcClass::NameError => "NameError",
+        ExcClass::UnboundLocalError => "UnboundLocalError",
+        ExcClass::AssertionError => "AssertionError",
+        ExcClass::RuntimeError => "RuntimeError",
+        ExcClass::NotImplementedError => "NotImplementedError",
+    }
+}

@@ -1,0 +1,220 @@
+ghost use Rattle.std.specs.Prelude.{◌≡◌, ◌≤◌, ◌++◌, List, length, codes, IfOk, IfSome, OnOk};
+ghost use Rattle.std.specs.List.{flat_map, list_any};
+ghost use Rattle.std.specs.Io.KnownBytes.{append_known};
+ghost use Rattle.xh_outside.specs.Causes.{Rose};
+ghost use Rattle.xh_outside.specs.Reading.{next_left, read_of};
+ghost use Rattle.xh_outside.specs.Writing.{AppendsPart};
+ghost use Rattle.py_tree.specs.declared.nodes.ExprNode.{ExprNode};
+ghost use Rattle.py_tree.specs.declared.nodes.FnNode.{FnNode};
+ghost use Rattle.py_tree.specs.Arena.{IsFunctionBelow};
+ghost use Rattle.py_tree.specs.BoundsOf.{bounds_of};
+ghost use Rattle.spec_verdicts.specs.Lines.{fault_line, refusal_line, verdict_line};
+ghost use Rattle.spec_verdicts.specs.Report.{entry_of, function_text, has_error, is_error, line_of, program_report, refused, report_of, reported};
+ghost use Rattle.spec_verdicts.specs.declared.TheConstants.{READ_LIMIT};
+ghost use Rattle.crosshair.specs.Ends.{Ends, HasStopCause, TellsRead};
+ghost use Rattle.crosshair.specs.Meaning.{condition_in, function_in, verdict_in};
+ghost use Rattle.crosshair.specs.Texts.{condition_fails, condition_text, program_in};
+
+use crate::admission::{Admission, admit};
+use crate::lines::{error_line, refusal_line};
+use crate::stop::Stop;
+use crate::verdicts::{Condition, Verdict, verdict_of};
+use py_tree::{Bounds, FnNode, Module};
+use spec_verdicts::READ_LIMIT;
+use std::alloc::Global;
+use xh_outside::{Bytes, Files, NoMemory, ReadError, Sink, write_all};
+
+/// The line under which a condition is reported.
+fn line_of(condition: Condition) -> u32
+    ensures { (nodes : List ExprNode) (f : FnNode) → result ≡ line_of (condition_in nodes f condition) }
+{
+    match condition {
+        Condition::Raises => 1,
+        Condition::Post => 2,
+    }
+}
+
+/// Appends what is written for a verdict, which is a line where it is an error, and answers whether
+/// it is.
+fn add_verdict(
+    alloc: Global,
+    name: &str,
+    line: u32,
+    function: &FnNode,
+    verdict: Verdict,
+    text: &mut Bytes,
+) -> Result<bool, NoMemory>
+    ensures text { OnOk result ((nodes : List ExprNode) → text.new ≡ text.old ++ verdict_line name.now line (function_in nodes function.now) (verdict_in verdict)) }
+    ensures fails { IfOk result (λ fails. fails ≡ is_error (verdict_in verdict)) }
+{
+    match verdict {
+        Verdict::Error { call, fault } => {
+            let piece = error_line(alloc, name, line, function, call.argument, fault)?;
+            text.extend(piece.as_slice())?;
+            Ok(true)
+        }
+        Verdict::NotConfirmed { .. } => Ok(false),
+        Verdict::Unmet => Ok(false),
+        Verdict::Confirmed => Ok(false),
+    }
+}
+
+/// Appends what is written for a condition, and answers whether its verdict is an error.
+fn add_condition(
+    alloc: Global,
+    name: &str,
+    trees: &Module,
+    function: &FnNode,
+    condition: Condition,
+    bounds: &Bounds,
+    text: &mut Bytes,
+) -> Result<bool, NoMemory>
+    requires { IsFunctionBelow (length trees.now.nodes) function.now }
+    ensures text { OnOk result (text.new ≡ text.old ++ condition_text name.now (bounds_of bounds.now) (function_in trees.now.nodes function.now) (condition_in trees.now.nodes function.now condition)) }
+    ensures fails { IfOk result (λ fails. fails ≡ condition_fails (bounds_of bounds.now) (function_in trees.now.nodes function.now) (condition_in trees.now.nodes function.now condition)) }
+{
+    let verdict = verdict_of(alloc, trees, function, condition, bounds)?;
+    add_verdict(alloc, name, line_of(condition), function, verdict, text)
+}
+
+/// Appends the lines of a function's conditions, and answers whether one is an error.
+#[tactic(auto, using(crate::proofs::Texts::has_error_parts))]
+fn add_function(
+    alloc: Global,
+    name: &str,
+    trees: &Module,
+    function: &FnNode,
+    bounds: &Bounds,
+    text: &mut Bytes,
+) -> Result<bool, NoMemory>
+    requires { IsFunctionBelow (length trees.now.nodes) function.now }
+    ensures text { OnOk result (text.new ≡ text.old ++ function_text name.now (bounds_of bounds.now) (function_in trees.now.nodes function.now)) }
+    ensures fails { IfOk result (λ fails. fails ≡ has_error (bounds_of bounds.now) (function_in trees.now.nodes function.now)) }
+{
+    let raises = add_condition(
+        alloc,
+        name,
+        trees,
+        function,
+        Condition::Raises,
+        bounds,
+        text,
+    )?;
+    let breaks = add_condition(alloc, name, trees, function, Condition::Post, bounds, text)?;
+    Ok(raises | breaks)
+}
+
+/// Appends the lines of a program's functions, and answers whether one is an error.
+fn add_program(
+    alloc: Global,
+    name: &str,
+    trees: &Module,
+    bounds: &Bounds,
+    text: &mut Bytes,
+) -> Result<bool, NoMemory>
+    ensures text { OnOk result (text.new ≡ text.old ++ flat_map (function_text name.now (bounds_of bounds.now)) (program_in trees.now).functions) }
+    ensures fails { IfOk result (λ fails. fails ≡ list_any (has_error (bounds_of bounds.now)) (program_in trees.now).functions) }
+{
+    let mut fails = false;
+    for i in 0..trees.functions() {
+        fails |= add_function(alloc, name, trees, trees.function(i), bounds, text)?;
+    }
+    Ok(fails)
+}
+
+/// Writes a refusal.
+fn refuse<O: Sink, E: Sink>(
+    alloc: Global,
+    name: &str,
+    line: u32,
+    kind: &str,
+    out: &mut O,
+    err: &mut E,
+) -> Result<u8, Stop>
+    ensures ends { Ends (reported (refused (refusal_line name.now line kind.now))) (O.bytes out.old) (O.bytes out.new) (E.bytes err.old) (E.bytes err.new) (E.faults err.old) (E.faults err.new) result }
+    ensures status { IfOk result (λ status. status ≤ 2) }
+    ensures cause { HasStopCause 0 0 (O.faults out.old) (O.faults out.new) (E.faults err.old) (E.faults err.new) result }
+{
+    let line = refusal_line(alloc, name, line, kind)?;
+    write_all(err, line.as_slice())?;
+    Ok(2)
+}
+
+/// Writes the report of an admitted file.
+fn report_program<O: Sink, E: Sink>(
+    alloc: Global,
+    name: &str,
+    trees: &Module,
+    bounds: &Bounds,
+    out: &mut O,
+    err: &mut E,
+) -> Result<u8, Stop>
+    ensures ends { Ends (reported (program_report name.now (bounds_of bounds.now) (program_in trees.now))) (O.bytes out.old) (O.bytes out.new) (E.bytes err.old) (E.bytes err.new) (E.faults err.old) (E.faults err.new) result }
+    ensures status { IfOk result (λ status. status ≤ 2) }
+    ensures cause { HasStopCause 0 0 (O.faults out.old) (O.faults out.new) (E.faults err.old) (E.faults err.new) result }
+{
+    let mut text = Bytes::new(alloc);
+    let fails = add_program(alloc, name, trees, bounds, &mut text)?;
+    write_all(out, text.as_slice())?;
+    Ok(u8::from(fails))
+}
+
+/// Writes the report of a file that was read.
+#[tactic(auto, unfolding(spec_verdicts::specs::Report::report_of))]
+fn report<O: Sink, E: Sink>(
+    alloc: Global,
+    name: &str,
+    content: &[u8],
+    bounds: &Bounds,
+    out: &mut O,
+    err: &mut E,
+) -> Result<u8, Stop>
+    requires { length content.now ≤ READ_LIMIT }
+    ensures ends { Ends (reported (report_of (bounds_of bounds.now) name.now content.now)) (O.bytes out.old) (O.bytes out.new) (E.bytes err.old) (E.bytes err.new) (E.faults err.old) (E.faults err.new) result }
+    ensures status { IfOk result (λ status. status ≤ 2) }
+    ensures cause { HasStopCause 0 0 (O.faults out.old) (O.faults out.new) (E.faults err.old) (E.faults err.new) result }
+{
+    match admit(alloc, content)? {
+        Admission::Admitted(trees) => report_program(alloc, name, &trees, bounds, out, err),
+        Admission::Refused(line) => refuse(alloc, name, line, "NotBuilt", out, err),
+    }
+}
+
+/// Writes the line of a failed read, which takes no memory. A write that fails here leaves the rest
+/// of the line out.
+fn report_fault<E: Sink>(name: &str, err: &mut E)
+    ensures part { AppendsPart (E.bytes err.old) (E.bytes err.new) (fault_line name.now) }
+    ensures whole { (Rose (E.faults err.old) (E.faults err.new) → ⊥) → E.bytes err.new ≡ append_known (E.bytes err.old) (fault_line name.now) }
+    ensures later { E.faults err.old ≤ E.faults err.new }
+{
+    if write_all(err, name.as_bytes()).is_ok() {
+        let _ = write_all(err, b": read fault\n");
+    }
+}
+
+/// Reads one file and writes its report or its refusal.
+pub fn check_target<F: Files, O: Sink, E: Sink>(
+    alloc: Global,
+    name: &str,
+    bounds: &Bounds,
+    files: &mut F,
+    out: &mut O,
+    err: &mut E,
+) -> Result<u8, Stop>
+    ensures ends { IfSome (F.contents files.old) (λ contents. Ends (entry_of (bounds_of bounds.now) name.now (read_of contents (F.left files.old) name.now READ_LIMIT)) (O.bytes out.old) (O.bytes out.new) (E.bytes err.old) (E.bytes err.new) (E.faults err.old) (E.faults err.new) result) }
+    ensures read { IfSome (F.contents files.old) (λ contents. TellsRead (read_of contents (F.left files.old) name.now READ_LIMIT) result) }
+    ensures contents { F.contents files.new ≡ F.contents files.old }
+    ensures left { OnOk result (F.left files.new ≡ next_left (F.left files.old)) }
+    ensures status { IfOk result (λ status. status ≤ 2) }
+    ensures cause { HasStopCause (F.faults files.old) (F.faults files.new) (O.faults out.old) (O.faults out.new) (E.faults err.old) (E.faults err.new) result }
+{
+    match files.read(alloc, name, READ_LIMIT) {
+        Ok(content) => report(alloc, name, content.as_slice(), bounds, out, err),
+        Err(ReadError::TooLong) => refuse(alloc, name, 1, "TooLong", out, err),
+        Err(ReadError::NoMemory) => Err(Stop::NoMemory),
+        Err(ReadError::Failed) => {
+            report_fault(name, err);
+            Err(Stop::ReadFault)
+        }
+    }
+}
