@@ -1,2 +1,3 @@
 pub mod Calls
 pub mod Printing
+pub mod Order
