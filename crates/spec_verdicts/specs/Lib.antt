@@ -4,3 +4,4 @@ pub mod Verdicts
 pub mod Lines
 pub mod Settings
 pub mod Report
+pub mod Firsts

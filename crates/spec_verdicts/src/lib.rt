@@ -1,5 +1,38 @@
 //! The verdict of each condition, and the whole run of the program.
 #![tactic(auto)]
 
+ghost use Rattle.std.specs.Prelude.{◌≡◌, ℕ, true, false, Some, slice_get};
+ghost use Rattle.std.specs.List.{list_all};
+ghost use Rattle.spec_trees.specs.declared.LimitKind.{LimitKind};
+ghost use Rattle.spec_trees.specs.Bounds.{Bounds};
+ghost use Rattle.spec_trees.specs.Program.{Function, Condition};
+ghost use Rattle.spec_calls.specs.Calls.{Call, calls};
+ghost use Rattle.spec_verdicts.specs.Breaking.{Fault, broken, limited, is_unmet};
+ghost use Rattle.spec_verdicts.specs.Verdicts.{Error, NotConfirmed, Unmet, Confirmed, verdict};
+ghost use Rattle.spec_verdicts.specs.Firsts.{FirstAt, Nowhere};
+
 /// The greatest number of bytes that a file may have: 1 MiB.
 pub const READ_LIMIT: u64 = 1_048_576;
+
+/// Where the verdict is an error, its call is the first within the bounds that breaks the condition, and its fault is
+/// what breaks it there.
+pub fn an_error_is_the_first_that_breaks()
+    ensures { (f : Function) (k : Condition) (b : Bounds) (c : Call) (fault : Fault) → verdict f k b ≡ Error c fault → FirstAt (broken f k b) (calls f b) c fault }
+{}
+
+/// Where the verdict is not confirmed, no call within the bounds breaks the condition, and its call is the first that
+/// is limited for it, by that limit.
+pub fn not_confirmed_is_the_first_limited()
+    ensures { (f : Function) (k : Condition) (b : Bounds) (c : Call) (kind : LimitKind) → verdict f k b ≡ NotConfirmed c kind → Nowhere (broken f k b) (calls f b) × FirstAt (limited f k b) (calls f b) c kind }
+{}
+
+/// Where the verdict is that the preconditions are unmet, no call within the bounds meets them.
+pub fn unmet_means_that_no_call_meets_them()
+    ensures { (f : Function) (k : Condition) (b : Bounds) → verdict f k b ≡ Unmet → (i : ℕ) (d : Call) → slice_get (calls f b) i ≡ Some d → is_unmet f b d ≡ true }
+{}
+
+/// Where the verdict is confirmed, no call within the bounds breaks the condition or is limited for it, and some call
+/// meets the preconditions.
+pub fn confirmed_means_every_call()
+    ensures { (f : Function) (k : Condition) (b : Bounds) → verdict f k b ≡ Confirmed → Nowhere (broken f k b) (calls f b) × Nowhere (limited f k b) (calls f b) × (list_all (is_unmet f b) (calls f b) ≡ false) }
+{}
