@@ -17,7 +17,7 @@ use std::alloc::Global;
 // The level above all binary operators, that of a sum.
 const LOOSEST: usize = 2;
 
-// An expression, inside less than `room` pairs of brackets.
+// An expression, in which fewer than `room` pairs of brackets stand inside one another.
 #[cycle(parser)]
 #[tactic(auto, using(py_tree::proofs::Arenas::extends_then, py_tree::proofs::Arenas::extends_push))]
 fn expr(
