@@ -1,5 +1,6 @@
 pub mod Commands
 pub mod Evaluation
+pub mod ExitRows
 pub mod Judging
 pub mod Laws
 pub mod Programs

@@ -4,6 +4,7 @@ ghost use Rattle.py_tree.specs.BoundsOf.{bounds_of};
 ghost use Rattle.spec_verdicts.specs.Lines.{usage};
 ghost use Rattle.spec_verdicts.specs.Report.{known_total, refused, reported, targets_total};
 ghost use Rattle.spec_verdicts.specs.Settings.{settings};
+ghost use Rattle.spec_verdicts.specs.Statuses.{EachTarget, SomeTarget, Passes, Fails, IsRefused};
 ghost use Rattle.crosshair.specs.Ends.{Ends, HasStopCause, IsCutShort, IsDone, IsReadFault, status_of};
 
 use crate::report::check_target;
@@ -113,6 +114,15 @@ pub fn run<F: Files, O: Sink, E: Sink>(
     // 4: the whole run ends so too, and only the line of the failed read may be cut short.
     ensures read_fault { IfSome (known_total words.now (F.contents files.old) (F.left files.old)) (λ total. result ≡ 4
         → IsReadFault total (O.bytes out.old) (O.bytes out.new) (E.bytes err.old) (E.bytes err.new) (E.faults err.old) (E.faults err.new)) }
+
+    // 0: every file is admitted, and none has an error.
+    ensures clean { result ≡ 0 → IfSome (settings words.now) (λ s. IfSome (F.contents files.old) (λ contents. EachTarget (Passes s.bounds contents) s.targets)) }
+
+    // 1: every file is admitted, and one has an error.
+    ensures failing { result ≡ 1 → IfSome (settings words.now) (λ s. IfSome (F.contents files.old) (λ contents. EachTarget (λ name. Passes s.bounds contents name ⊎ Fails s.bounds contents name) s.targets × SomeTarget (Fails s.bounds contents) s.targets)) }
+
+    // 2: the words are refused, or a file is.
+    ensures refusing { result ≡ 2 → IfSome (settings words.now) (λ s. IfSome (F.contents files.old) (λ contents. SomeTarget (IsRefused contents) s.targets)) }
 
     // When 0, 1, 4 and 5 come, whether contents are told or not.
     ensures accepted { result ≤ 1 → IsSome (settings words.now) }

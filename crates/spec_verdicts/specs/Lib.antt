@@ -5,3 +5,4 @@ pub mod Lines
 pub mod Settings
 pub mod Report
 pub mod Firsts
+pub mod Statuses
