@@ -1,10 +1,8 @@
 -- What the status of the whole run says of the targets.
-use Rattle.std.proofs.Common.{◌≡◌, ℕ, ◌≤◌, ◌⊎◌, max, Bool, true, false, List, [], ◌∷◌, length, Option, Some, None, Result, Ok, Err, if◌then◌else◌, ◌==◌, nat_le, inl, inr, refl, ap, subst, arith}
-use Rattle.std.proofs.lemmas.Bool.{leb-true}
+use Rattle.std.proofs.Common.{◌≡◌, ℕ, ◌≤◌, ◌⊎◌, max, Bool, true, false, List, [], ◌∷◌, length, Option, Some, None, Result, Ok, Err, if◌then◌else◌, nat_le, inl, inr, refl, ap, subst, arith}
 use Rattle.std.proofs.lemmas.Bool.Decides.{nat_tests}
 use Rattle.std.specs.List.{list_any}
 use Rattle.xh_outside.specs.Reading.{content_of, read_within, is_due, read_of, next_left}
-use Rattle.xh_outside.specs.declared.errors.ReadError.{ReadError}
 use Rattle.xh_outside.specs.declared.errors.ReadError.TheVariants.{Failed, TooLong}
 use Rattle.spec_trees.specs.Bounds.{Bounds}
 use Rattle.spec_trees.specs.Program.{Program}
