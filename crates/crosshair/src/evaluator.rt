@@ -76,7 +76,10 @@ pub fn evaluate(trees: &Module, e: ExprId, locals: &[Local], steps: u32) -> Eval
         ExprNode::Name { name, .. } => leaf(read(locals, name.as_slice()), steps),
         ExprNode::Int { value, .. } => leaf(Outcome::Returned(integer(*value)), steps),
         ExprNode::Binary {
-            op, left, right, ..
+            op,
+            left,
+            right,
+            ..
         } => match evaluate_both(trees, *left, *right, locals, steps) {
             Ok(both) => Evaluated {
                 outcome: calculated(*op, both.left, both.right),
@@ -85,7 +88,10 @@ pub fn evaluate(trees: &Module, e: ExprId, locals: &[Local], steps: u32) -> Eval
             Err(ended) => ended,
         },
         ExprNode::Compare {
-            op, left, right, ..
+            op,
+            left,
+            right,
+            ..
         } => match evaluate_both(trees, *left, *right, locals, steps) {
             Ok(both) => Evaluated {
                 outcome: compared(*op, both.left, both.right),
