@@ -1,17 +1,16 @@
 -- How runs of expressions are put together.
-use Rattle.std.proofs.Common.{◌≡◌, ◌<◌, ℕ, ◌-◌, ◌==◌, List, pos, Bool, true, false, Result, Ok, Err, refl, sym, ap, ◌∙◌, subst, arith}
+use Rattle.std.proofs.Common.{◌≡◌, ◌<◌, ℕ, ◌-◌, ◌==◌, List, pos, Bool, true, false, refl, sym, ap, ◌∙◌, subst, arith}
 use Rattle.std.specs.Prelude.{if◌then◌else◌}
 use Rattle.spec_trees.specs.declared.LimitKind.TheVariants as limit
 use Rattle.spec_trees.specs.Expr.{Expr}
 use Rattle.spec_trees.specs.Expr as tree
 use Rattle.spec_trees.specs.declared.BinaryOp.{BinaryOp}
 use Rattle.spec_trees.specs.declared.CompareOp.{CompareOp}
-use Rattle.spec_running.specs.declared.Value.{Value}
 use Rattle.spec_running.specs.declared.Value.TheVariants.{Int}
 use Rattle.spec_running.specs.declared.Outcome.{Outcome}
-use Rattle.spec_running.specs.declared.Outcome.TheVariants.{Returned, Raised, Limit}
+use Rattle.spec_running.specs.declared.Outcome.TheVariants.{Returned, Limit}
 use Rattle.spec_running.specs.States.{Locals, State, Ran, local}
-use Rattle.spec_running.specs.Running.{eval, ends, spending, and_then, read}
+use Rattle.spec_running.specs.Running.{eval, ends, spending, read}
 use Rattle.spec_running.specs.Operations.{calculated, compared}
 use Rattle.crosshair.specs.declared.evaluator.Evaluated.{Evaluated}
 use Rattle.crosshair.specs.Evaluates.{RunsTo, operated, stepped}

@@ -3,8 +3,8 @@ use Rattle.std.proofs.Common.{◌≡◌, ◌≤◌, ◌⊎◌, ℕ, List, sym, �
 use Rattle.std.specs.Prelude.{Option, Some, None, Result, Ok, Err, IfSome}
 use Rattle.spec_verdicts.specs.Report.{Total, settled_total, targets_total}
 use Rattle.spec_verdicts.specs.Settings.{Settings}
-use Rattle.spec_verdicts.specs.Statuses.{EachTarget, SomeTarget, Passes, Fails, IsRefused}
-use Rattle.spec_verdicts.proofs.StatusRows.{zero_means, one_means, two_means}
+use Rattle.spec_verdicts.specs.Statuses.{EachTarget, SomeTarget, SomeReadFails, Passes, Fails, IsRefused}
+use Rattle.spec_verdicts.proofs.StatusRows.{zero_means, one_means, two_means, four_means}
 use Rattle.crosshair.specs.Ends.{Ends, status_of}
 use Rattle.crosshair.specs.declared.stop.Stop.{Stop}
 use Rattle.crosshair.specs.declared.stop.Stop.TheVariants.{NoMemory, ReadFault, WriteFault}
@@ -42,3 +42,16 @@ pub two_row : (s : Option Settings) (contents : Option (List (List ℕ × List �
     → IfSome (settled_total s contents left) (λ total. Ends total o o' e e' n n' r) → result ≡ status_of r → result ≡ 2 → IfSome s (λ s. IfSome contents (λ files. SomeTarget (IsRefused files) s.targets))
 two_row s contents left o o' e e' n n' r result ends is same =
     row s contents left o o' e e' n n' r result 2 (λ s files. SomeTarget (IsRefused files) s.targets) (λ s files k. two_means s.bounds s.targets files left k) (omega arith) ends is same
+
+-- 4: the read of some target fails
+pub four_row : (s : Option Settings) (contents : Option (List (List ℕ × List ℕ))) (left : Option ℕ) (o o' e e' : Option (List ℕ)) (n n' : ℕ) (r : Result ℕ Stop) (result : ℕ)
+    → IfSome (settled_total s contents left) (λ total. Ends total o o' e e' n n' r) → result ≡ status_of r → result ≡ 4 → IfSome s (λ s. IfSome contents (λ files. SomeReadFails files s.targets left))
+four_row None contents left o o' e e' n n' r result ends is same = tt
+four_row (Some s) None left o o' e e' n n' r result ends is same = tt
+four_row (Some s) (Some files) left o o' e e' n n' r result ends is same = four_means s.bounds s.targets files left (failed r ends is)
+  where
+    failed : (r : Result ℕ Stop) → Ends (targets_total s.bounds s.targets files left) o o' e e' n n' r → result ≡ status_of r → (targets_total s.bounds s.targets files left).status ≡ 4
+    failed (Ok status) ends is = sym ends.answer ∙ sym is ∙ same
+    failed (Err NoMemory) ends is = absurd (omega arith)
+    failed (Err ReadFault) ends is = ends.status
+    failed (Err WriteFault) ends is = absurd (omega arith)

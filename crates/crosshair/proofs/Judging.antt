@@ -1,5 +1,5 @@
 -- How runs of a form's body and post line decide its conditions.
-use Rattle.std.proofs.Common.{◌≡◌, ◌<◌, ◌≤◌, ℕ, ◌-◌, ◌==◌, Bool, true, false, List, [], ◌∷◌, ◌++◌, ℤ, Option, Some, None, map, refl, sym, ap, ◌∙◌, subst, arith}
+use Rattle.std.proofs.Common.{◌≡◌, ◌<◌, ℕ, ◌-◌, Bool, true, false, [], ◌∷◌, ℤ, refl, sym, ap, ◌∙◌, arith}
 use Rattle.std.specs.Prelude.{nat_lt, if◌then◌else◌}
 use Rattle.spec_trees.specs.declared.LimitKind.{LimitKind}
 use Rattle.spec_trees.specs.declared.LimitKind.TheVariants as limit
@@ -11,9 +11,8 @@ use Rattle.spec_running.specs.declared.Value.{Value}
 use Rattle.spec_running.specs.declared.Value.TheVariants.{Int}
 use Rattle.spec_running.specs.declared.Outcome.{Outcome}
 use Rattle.spec_running.specs.declared.Outcome.TheVariants.{Returned, Raised, Limit}
-use Rattle.spec_running.specs.States.{Heap, Locals, State, Ran}
-use Rattle.spec_running.specs.Running.{eval, exec, call, ends, spending, executed, fresh, bound, left_by}
-use Rattle.spec_calls.specs.Calls.{Call, made}
+use Rattle.spec_running.specs.States.{State, Ran}
+use Rattle.spec_running.specs.Running.{eval, exec, call, ends, spending, executed, fresh, left_by}
 use Rattle.spec_contracts.specs.Forms.{Form}
 use Rattle.spec_contracts.specs.Admission.{function_of}
 use Rattle.spec_contracts.specs.Names.{returned_name}
@@ -22,7 +21,7 @@ use Rattle.spec_verdicts.specs.Judging as judging
 use Rattle.spec_verdicts.specs.Breaking.{broken, limited, is_unmet, fault_of, limit_of, fault_at, limit_at, is_unmet_at, line_outcome, line_fault, line_limit}
 use Rattle.crosshair.specs.declared.verdicts.Judgement.{Judgement}
 use Rattle.crosshair.specs.declared.verdicts.Judgement.TheVariants.{Held, Broken, Limited}
-use Rattle.crosshair.specs.declared.verdicts.Fault.TheVariants.{WasFalse, RaisedInBody, RaisedInPost}
+use Rattle.crosshair.specs.declared.verdicts.Fault.TheVariants.{RaisedInBody}
 use Rattle.crosshair.specs.Evaluates.{RunsTo}
 use Rattle.crosshair.specs.Meaning.{call_with}
 use Rattle.crosshair.specs.Judges.{EndsBody, IsJudged, IsLineJudged, broken_by, limited_by}

@@ -1,7 +1,6 @@
 -- A module of one function stands for the program of its form.
-use Rattle.std.proofs.Common.{◌≡◌, List, [], ◌∷◌, Option, Some, None, map, refl, sym, ap, ◌∙◌}
+use Rattle.std.proofs.Common.{◌≡◌, List, [], ◌∷◌, Some, map, refl, ap, ◌∙◌}
 use Rattle.std.specs.Prelude.{slice_get}
-use Rattle.spec_trees.specs.Program.{Function}
 use Rattle.spec_contracts.specs.Forms.{Form}
 use Rattle.spec_contracts.specs.Admission.{function_of}
 use Rattle.py_tree.specs.declared.nodes.ExprNode.{ExprNode}

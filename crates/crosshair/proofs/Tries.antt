@@ -1,5 +1,5 @@
 -- The verdict over a list of calls, call by call.
-use Rattle.std.proofs.Common.{◌≡◌, ◌<◌, ℕ, ◌+◌, Bool, true, false, List, [], ◌∷◌, ◌++◌, ℤ, pos, negsuc, Option, Some, None, map, drop, length, refl, sym, ap, ◌∙◌, subst, arith}
+use Rattle.std.proofs.Common.{◌≡◌, ℕ, Bool, true, false, List, [], ◌∷◌, ℤ, pos, negsuc, Option, Some, None, map, refl, sym, ap, ◌∙◌}
 use Rattle.std.specs.Prelude.{◌&&◌}
 use Rattle.std.specs.List.{list_all, flat_map}
 use Rattle.spec_trees.specs.declared.LimitKind.{LimitKind}
@@ -9,12 +9,10 @@ use Rattle.spec_calls.specs.Calls.{Call, Number, integers, calls}
 use Rattle.spec_contracts.specs.Forms.{Form}
 use Rattle.spec_contracts.specs.Admission.{function_of}
 use Rattle.spec_verdicts.specs.Breaking.{Fault, broken, limited, is_unmet}
-use Rattle.spec_verdicts.specs.Verdicts.{Verdict, Error, first_of, with_call, concluded, undecided, verdict_over}
+use Rattle.spec_verdicts.specs.Verdicts.{Error, first_of, with_call, concluded, undecided, verdict_over}
 use Rattle.crosshair.specs.declared.calls.Call as declared
-use Rattle.crosshair.specs.declared.verdicts.Judgement.{Judgement}
-use Rattle.crosshair.specs.declared.verdicts.Judgement.TheVariants.{Held, Broken, Limited}
-use Rattle.crosshair.specs.Meaning.{call_with, fault_in}
-use Rattle.crosshair.specs.Judges.{IsJudged, calls_in, earlier, limit_at, kept}
+use Rattle.crosshair.specs.Meaning.{call_with}
+use Rattle.crosshair.specs.Judges.{calls_in, earlier, limit_at, kept}
 
 -- what is known of all calls zs, when ws are still to be tried
 pub record Tried (f : Function) (k : Condition) (b : Bounds) (zs ws : List declared.Call) (limit : Option (declared.Call × LimitKind)) (unmet : Bool) : Type 0 where

@@ -1,9 +1,8 @@
 -- What reading a content answers.
-use Rattle.std.specs.Prelude.{◌≡◌, ℕ, List, [], ◌∷◌, map, length, Result, Ok, Err}
-use Rattle.spec_trees.specs.Program.{Program, Function}
+use Rattle.std.specs.Prelude.{◌≡◌, ℕ, [], ◌∷◌, map, Result, Ok, Err}
+use Rattle.spec_trees.specs.Program.{Program}
 use Rattle.spec_contracts.specs.Forms.{Form}
 use Rattle.spec_contracts.specs.Admission.{formed}
-use Rattle.py_tree.specs.declared.nodes.FnNode.{FnNode}
 use Rattle.py_tree.specs.Arena.{ModuleState}
 use Rattle.py_parser.specs.Answers.{form_in}
 use Rattle.crosshair.specs.declared.admission.Admission.{Admission}

@@ -1,5 +1,5 @@
 -- What judging one call answers for a condition.
-use Rattle.std.specs.Prelude.{◌≡◌, ℕ, ℤ, Bool, false, ◌&&◌, List, [], ◌∷◌, map, Option, Some, None}
+use Rattle.std.specs.Prelude.{◌≡◌, ℤ, false, List, [], ◌∷◌, map, Option, Some, None}
 use Rattle.spec_trees.specs.declared.LimitKind.{LimitKind}
 use Rattle.spec_trees.specs.Bounds.{Bounds}
 use Rattle.spec_trees.specs.Program.{Function, Condition}
@@ -12,7 +12,6 @@ use Rattle.spec_contracts.specs.Admission.{function_of}
 use Rattle.spec_verdicts.specs.Judging.{body_of}
 use Rattle.spec_verdicts.specs.Breaking.{broken, limited, is_unmet, line_fault, line_limit}
 use Rattle.spec_verdicts.specs.Breaking as breaking
-use Rattle.spec_verdicts.specs.Verdicts.{first_of}
 use Rattle.crosshair.specs.declared.calls.Call as declared
 use Rattle.crosshair.specs.declared.verdicts.Judgement.{Judgement}
 use Rattle.crosshair.specs.declared.verdicts.Judgement.TheVariants.{Held, Broken, Limited}

@@ -3,8 +3,6 @@ use Rattle.std.specs.Prelude.{ℕ, ℤ, Bool, List, [], ◌∷◌, map, Option, 
 use Rattle.std.specs.Borrow.{Bor}
 use Rattle.spec_trees.specs.Program.{Function}
 use Rattle.spec_trees.specs.Program as program
-use Rattle.spec_running.specs.States.{Locals}
-use Rattle.spec_running.specs.declared.Value.{Value}
 use Rattle.spec_calls.specs.Calls.{Call, Number}
 use Rattle.spec_contracts.specs.Forms.{Head}
 use Rattle.spec_contracts.specs.Admission.{function_of}

@@ -4,7 +4,7 @@ ghost use Rattle.py_tree.specs.BoundsOf.{bounds_of};
 ghost use Rattle.spec_verdicts.specs.Lines.{usage};
 ghost use Rattle.spec_verdicts.specs.Report.{known_total, refused, reported, targets_total};
 ghost use Rattle.spec_verdicts.specs.Settings.{settings};
-ghost use Rattle.spec_verdicts.specs.Statuses.{EachTarget, SomeTarget, Passes, Fails, IsRefused};
+ghost use Rattle.spec_verdicts.specs.Statuses.{EachTarget, SomeReadFails, SomeTarget, Passes, Fails, IsRefused};
 ghost use Rattle.crosshair.specs.Ends.{Ends, HasStopCause, IsCutShort, IsDone, IsReadFault, status_of};
 
 use crate::report::check_target;
@@ -123,6 +123,9 @@ pub fn run<F: Files, O: Sink, E: Sink>(
 
     // 2: the words are refused, or a file is.
     ensures refusing { result ≡ 2 → IfSome (settings words.now) (λ s. IfSome (F.contents files.old) (λ contents. SomeTarget (IsRefused contents) s.targets)) }
+
+    // 4: a file could not be read.
+    ensures unread { result ≡ 4 → IfSome (settings words.now) (λ s. IfSome (F.contents files.old) (λ contents. SomeReadFails contents s.targets (F.left files.old))) }
 
     // When 0, 1, 4 and 5 come, whether contents are told or not.
     ensures accepted { result ≤ 1 → IsSome (settings words.now) }

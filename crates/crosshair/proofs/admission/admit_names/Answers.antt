@@ -1,4 +1,4 @@
-use Rattle.std.proofs.Common.{◌≡◌, Ok, ap, sym, ◌∙◌}
+use Rattle.std.proofs.Common.{Ok, ap, sym, ◌∙◌}
 use Rattle.spec_trees.specs.Program.{Program, Function}
 use Rattle.spec_contracts.specs.Admission.{named}
 use Rattle.spec_contracts.specs.Names.{broken_line}

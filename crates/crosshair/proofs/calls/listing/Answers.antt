@@ -1,4 +1,4 @@
-use Rattle.std.proofs.Common.{rules, arith}
+use Rattle.std.proofs.Common.{rules}
 use Rattle.crosshair.proofs.Tries.{listed}
 use Rattle.crosshair.proofs.calls.listing.Goals as goal
 

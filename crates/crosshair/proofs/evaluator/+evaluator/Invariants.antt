@@ -1,4 +1,4 @@
-use Rattle.std.proofs.Common.{ℕ, ◌+◌, ◌*◌, max}
+use Rattle.std.proofs.Common.{◌+◌, ◌*◌, max}
 use Rattle.crosshair.proofs.evaluator.+evaluator.Given as goal
 
 abbrev pub decreases-evaluate : goal.decreases-evaluate

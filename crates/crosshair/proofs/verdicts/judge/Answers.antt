@@ -1,4 +1,3 @@
-use Rattle.std.proofs.Common.{sym, ap, subst}
 use Rattle.crosshair.proofs.Judging.{limit_decides, raise_breaks, raise_passes, return_passes, line_decides}
 use Rattle.crosshair.proofs.verdicts.judge.Goals as goal
 

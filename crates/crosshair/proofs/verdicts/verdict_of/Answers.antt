@@ -1,5 +1,5 @@
-use Rattle.std.proofs.Common.{ap, ◌∙◌, sym}
-use Rattle.spec_verdicts.specs.Verdicts.{verdict, verdict_over}
+use Rattle.std.proofs.Common.{◌∙◌}
+use Rattle.spec_verdicts.specs.Verdicts.{verdict}
 use Rattle.crosshair.proofs.Tries.{calls_are}
 use Rattle.crosshair.proofs.verdicts.verdict_of.Goals as goal
 

@@ -1,4 +1,4 @@
-use Rattle.std.proofs.Common.{◌≡◌, drop}
+use Rattle.std.proofs.Common.{drop}
 use Rattle.py_tree.specs.BoundsOf.{bounds_of}
 use Rattle.crosshair.specs.Meaning.{function_in, condition_in}
 use Rattle.crosshair.proofs.Tries.{Tried}
