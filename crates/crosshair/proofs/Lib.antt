@@ -1,4 +1,4 @@
-pub mod Commands
+pub mod CommandWords
 pub mod Evaluation
 pub mod ExitRows
 pub mod Judging

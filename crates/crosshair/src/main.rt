@@ -3,6 +3,7 @@
 
 mod admission;
 mod calls;
+mod commands;
 mod evaluator;
 mod lines;
 mod names;

@@ -15,7 +15,7 @@ ghost use Rattle.crosshair.specs.Ends.{Ends, HasStopCause, TellsRead};
 ghost use Rattle.crosshair.specs.Meaning.{condition_in, function_in, verdict_in};
 ghost use Rattle.crosshair.specs.Texts.{condition_fails, condition_text, program_in};
 
-use crate::admission::{Admission, admit};
+use crate::admission::{StageError, admit};
 use crate::lines::{error_line, refusal_line};
 use crate::stop::Stop;
 use crate::verdicts::{Condition, Verdict, verdict_of};
@@ -174,9 +174,10 @@ fn report<O: Sink, E: Sink>(
     ensures status { IfOk result (λ status. status ≤ 2) }
     ensures cause { HasStopCause 0 0 (O.faults out.old) (O.faults out.new) (E.faults err.old) (E.faults err.new) result }
 {
-    match admit(alloc, content)? {
-        Admission::Admitted(trees) => report_program(alloc, name, &trees, bounds, out, err),
-        Admission::Refused(line) => refuse(alloc, name, line, "NotBuilt", out, err),
+    match admit(alloc, content) {
+        Ok(trees) => report_program(alloc, name, &trees, bounds, out, err),
+        Err(StageError::NotBuilt(line)) => refuse(alloc, name, line, "NotBuilt", out, err),
+        Err(StageError::NoMemory) => Err(Stop::NoMemory),
     }
 }
 

@@ -7,8 +7,8 @@ ghost use Rattle.spec_verdicts.specs.Settings.{settings};
 ghost use Rattle.spec_verdicts.specs.Statuses.{EachTarget, SomeReadFails, SomeTarget, Passes, Fails, IsRefused};
 ghost use Rattle.crosshair.specs.Ends.{Ends, HasStopCause, IsCutShort, IsDone, IsReadFault, status_of};
 
+use crate::commands::settings;
 use crate::report::check_target;
-use crate::settings::settings_of;
 use crate::stop::Stop;
 use py_tree::Bounds;
 use std::alloc::Global;
@@ -60,7 +60,7 @@ fn check_words<F: Files, O: Sink, E: Sink>(
     ensures accepted { IfOk result (λ status. status ≤ 1 → IsSome (settings words.now)) }
     ensures cause { HasStopCause (F.faults files.old) (F.faults files.new) (O.faults out.old) (O.faults out.new) (E.faults err.old) (E.faults err.new) result }
 {
-    match settings_of(alloc, words)? {
+    match settings(alloc, words)? {
         Some(settings) => {
             check_targets(alloc, &settings.bounds, &settings.targets, files, out, err)
         }

@@ -1,11 +1,14 @@
+use thiserror::Error;
 use xh_outside::NoMemory;
 
 /// Why a text is not read.
-#[derive(Clone, Copy, Debug, PartialEq, Eq)]
+#[derive(Clone, Copy, Debug, PartialEq, Eq, Error)]
 pub enum SyntaxError {
     /// The line of this number, counted from 1, is the first that is not one of those that can be read.
+    #[error("line {0} is of no form that is read")]
     NotBuilt(u32),
     /// There is no memory for the nodes.
+    #[error("out of memory")]
     NoMemory,
 }
 

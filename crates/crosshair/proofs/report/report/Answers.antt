@@ -1,5 +1,5 @@
-use Rattle.crosshair.proofs.Laws.{cut_none, ends_no_memory}
+use Rattle.crosshair.proofs.Laws.{cut_none}
 use Rattle.crosshair.proofs.report.report.Goals as goal
 
-pub returns-in_err-trees-clause-ends : goal.returns-in_err-trees-clause-ends
-returns-in_err-trees-clause-ends g c = ends_no_memory _ _ _ _ _ _ _ _ c.from_residual.ensures.1 (cut_none _ _ _)
+pub returns-in-Err-NoMemory-clause-ends : goal.returns-in-Err-NoMemory-clause-ends
+returns-in-Err-NoMemory-clause-ends g c = cut_none _ _ _

@@ -1,7 +1,7 @@
 use Rattle.std.proofs.Common.{◌≡◌, length, arith, ap, sym, ◌∙◌, [], ◌∷◌, ◌++◌}
 use Rattle.std.specs.Option.{option_copied}
-use Rattle.crosshair.proofs.Commands.{word_at, settings_like, settings_other, settings_unlike}
-use Rattle.crosshair.proofs.settings.settings_of.Goals as goal
+use Rattle.crosshair.proofs.CommandWords.{word_at, settings_like, settings_other, settings_unlike}
+use Rattle.crosshair.proofs.commands.settings.Goals as goal
 
 pub returns-then-len-ne2 : goal.returns-then-len-ne2
 returns-then-len-ne2 c = settings_other c.args.words.now (λ e. omega (arith, e, c.len.ensures))
