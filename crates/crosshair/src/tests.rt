@@ -14,7 +14,7 @@ fn words_of(alloc: Global, names: &[&str]) -> Result<Words, Fail> {
     Ok(words)
 }
 
-// The square of 0 breaks the first post line, and the others have no error.
+// The square of 0 breaks the first post line. A product meets the limit of integers, and breaks nothing.
 fn files_of(alloc: Global) -> Result<MemFiles, Fail> {
     let mut files = MemFiles::new(alloc);
     files.put(
@@ -24,6 +24,18 @@ fn files_of(alloc: Global) -> Result<MemFiles, Fail> {
     files.put(
         "inc.py",
         b"def inc(x: int) -> int:\n    \"\"\"post: __return__ > x\"\"\"\n    return x + 1\n",
+    )?;
+    files.put(
+        "least.py",
+        b"def least(x: int) -> int:\n    \"\"\"post: __return__ != 1\"\"\"\n    return x * x\n",
+    )?;
+    files.put(
+        "less.py",
+        b"def less(x: int) -> bool:\n    \"\"\"post: __return__\"\"\"\n    return x < 1\n",
+    )?;
+    files.put(
+        "big.py",
+        b"def big(x: int) -> int:\n    \"\"\"post: __return__ * 0 == 0\"\"\"\n    return x*x*x*x*x*x*x*x*x*x*x*x*x*x*x*x*x*x*x\n",
     )?;
     files.put(
         "true.py",
@@ -84,9 +96,14 @@ fn answers_the_status(rt: HostRuntime) -> Result<(), Fail> {
     let mut files = files_of(alloc)?;
     let roomy = (100, 100);
     let error = "m.py:2: error: false when calling sq(x = 0) (which returns 0)\n";
-    let table: [(&str, (usize, usize), (u8, &str, &str)); 6] = [
+    let negative = "least.py:2: error: false when calling least(x = -1) (which returns 1)\n";
+    let truth = "less.py:2: error: false when calling less(x = 1) (which returns False)\n";
+    let table: [(&str, (usize, usize), (u8, &str, &str)); 9] = [
         ("m.py", roomy, (1, error, "")),
         ("inc.py", roomy, (0, "", "")),
+        ("least.py", roomy, (1, negative, "")),
+        ("less.py", roomy, (1, truth, "")),
+        ("big.py", roomy, (0, "", "")),
         ("true.py", roomy, (2, "", "true.py:2: refused: NotBuilt\n")),
         ("n.py", roomy, (4, "", "n.py: read fault\n")),
         ("n.py", (100, 7), (4, "", "n.py: r")),
