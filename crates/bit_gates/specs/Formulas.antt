@@ -1,5 +1,7 @@
 -- The truth values of gates and literals under an assignment, which is a list of truth values for the inputs.
-use Rattle.std.specs.Prelude.{Option, Some, None, is_some, nat_lt, ◌==◌, position, ◌≡◌, ◌<◌, ℕ, suc, ◌+◌, Bool, true, false, not, ◌&&◌, List, [], ◌∷◌, ◌++◌, length, slice_index_or, unwrap_or, slice_get, if◌then◌else◌}
+use Rattle.std.specs.Prelude.{Option, Some, None, is_some, nat_lt, ◌==◌, ◌≡◌, ◌<◌, ◌≤◌, ℕ, suc, ◌+◌, Bool, true, false, not, ◌&&◌, List, [], ◌∷◌, ◌++◌, length, slice_index_or, unwrap_or, slice_get, if◌then◌else◌}
+use Rattle.std.specs.Bool.{beq}
+use Rattle.std.specs.List.{position_or_len}
 use Rattle.bit_gates.specs.declared.lit.Gate.{Gate}
 use Rattle.bit_gates.specs.declared.lit.Gate.TheVariants as gate
 use Rattle.bit_gates.specs.declared.lit.Lit.{Lit}
@@ -32,11 +34,6 @@ pub record Extends (old new : List Gate) : Type 0 where
   pub more : List Gate
   pub is : new ≡ old ++ more
 
-abbrev pub is_input : Gate → Bool
-is_input gate.True = false
-is_input (gate.Input i) = true
-is_input (gate.And a b) = false
-
 -- the operands of a gate are among the first n gates, and its input is one of so many
 abbrev pub IsGateBelow : ℕ → ℕ → Gate → Type 0
 IsGateBelow inputs n gate.True = Unit {0}
@@ -48,21 +45,23 @@ abbrev pub AreGatesFrom : ℕ → ℕ → List Gate → Type 0
 AreGatesFrom inputs n [] = Unit {0}
 AreGatesFrom inputs n (g ∷ gates) = IsGateBelow inputs n g × AreGatesFrom inputs (n + 1) gates
 
+-- what holds of the gates behind True: operands come earlier, and each input has a gate of its own
+pub record AreBehindTrue (inputs : ℕ) (gates : List Gate) : Type 0 where
+  pub below : AreGatesFrom inputs 1 gates
+  pub room : inputs ≤ length gates
+
 -- what an arena holds: the gates, the first of which is True, and the number of inputs
 pub record Arena : Type 0 where
   pub gates : List Gate
   pub inputs : ℕ
 
+-- the negation of a literal
 abbrev pub negated : Lit → Lit
 negated a = record a { positive = not a.positive }
 
-abbrev pub same_sign : Bool → Bool → Bool
-same_sign true b = b
-same_sign false b = not b
-
 -- equal literals
 abbrev pub same_lit : Lit → Lit → Bool
-same_lit a b = a.place == b.place && same_sign a.positive b.positive
+same_lit a b = a.place == b.place && beq a.positive b.positive
 
 -- the literal of a truth value
 abbrev pub lit_of : Bool → Lit
@@ -70,21 +69,24 @@ lit_of v = record { place = 0; positive = v }
 
 -- The conjunction of two literals where no gate is needed: of a constant, of equal literals, of a literal and its negation.
 abbrev pub folded : Lit → Lit → Option Lit
-folded a b = if a.place == 0 then Some (if a.positive then b else lit_of false) else (if b.place == 0 then Some (if b.positive then a else lit_of false) else (if a.place == b.place then Some (if same_sign a.positive b.positive then a else lit_of false) else None))
+folded a b = if a.place == 0 then Some (if a.positive then b else lit_of false) else (if b.place == 0 then Some (if b.positive then a else lit_of false) else (if a.place == b.place then Some (if beq a.positive b.positive then a else lit_of false) else None))
 
 -- the gate of two literals, the earlier place first
 abbrev pub and_gate : Lit → Lit → Gate
 and_gate a b = if nat_lt a.place b.place then gate.And a b else gate.And b a
 
-abbrev pub is_and : Lit → Lit → Gate → Bool
-is_and a b gate.True = false
-is_and a b (gate.Input i) = false
-is_and a b (gate.And c d) = same_lit a c && same_lit b d
+-- equal gates
+abbrev pub same_gate : Gate → Gate → Bool
+same_gate gate.True gate.True = true
+same_gate (gate.Input i) (gate.Input j) = i == j
+same_gate (gate.And a b) (gate.And c d) = same_lit a c && same_lit b d
+same_gate g h = false
 
 -- where that gate stands, or else the next free place
 abbrev pub and_place : List Gate → Lit → Lit → ℕ
-and_place gates a b = if nat_lt a.place b.place then unwrap_or (position (is_and a b) gates) (length gates) else unwrap_or (position (is_and b a) gates) (length gates)
+and_place gates a b = position_or_len (same_gate (and_gate a b)) gates
 
+-- the conjunction of two literals
 abbrev pub and_lit : List Gate → Lit → Lit → Lit
 and_lit gates a b = unwrap_or (folded a b) (record { place = and_place gates a b; positive = true })
 
@@ -92,5 +94,6 @@ and_lit gates a b = unwrap_or (folded a b) (record { place = and_place gates a b
 abbrev pub placed : List Gate → ℕ → Gate → List Gate
 placed gates place g = if place == length gates then gates ++ g ∷ [] else gates
 
+-- the gates with that of the conjunction of two literals
 abbrev pub and_gates : List Gate → Lit → Lit → List Gate
 and_gates gates a b = if is_some (folded a b) then gates else placed gates (and_place gates a b) (and_gate a b)

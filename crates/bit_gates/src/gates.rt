@@ -19,13 +19,13 @@ pub struct Gates {
 impl Model for Gates {
     ghost use Rattle.std.specs.Prelude.{◌∷◌};
     ghost use Rattle.bit_gates.specs.declared.lit.Gate.TheVariants as gate;
-    ghost use Rattle.bit_gates.specs.Formulas.{Arena, AreGatesFrom};
+    ghost use Rattle.bit_gates.specs.Formulas.{Arena, AreBehindTrue};
 
     ghost Value = { Arena };
 
     ghost view = { λ g. record { gates = gate.True ∷ g.gates.keys; inputs = g.inputs } };
 
-    ghost invariant = { λ g. AreGatesFrom g.inputs 1 g.gates.keys };
+    ghost invariant = { λ g. AreBehindTrue g.inputs g.gates.keys };
 }
 
 impl Gates {
@@ -48,11 +48,11 @@ impl Gates {
         ensures value { IfOk result (λ a. (bits : List Bool) → value_of self.new.gates bits a ≡ slice_index_or bits self.old.inputs false) }
         ensures refused { OnErr result (self.new ≡ self.old) }
     {
-        let gate = Gate::Input(self.inputs);
-        let (index, _) = self.gates.insert_full(gate)?;
+        let place = self.len();
+        self.gates.insert(Gate::Input(self.inputs))?;
         self.inputs += 1;
         Ok(Lit {
-            place: index + 1,
+            place,
             positive: true,
         })
     }

@@ -5,6 +5,7 @@
 
 mod bits;
 mod gates;
+pub mod laws;
 mod lit;
 
 pub use bits::Bits;

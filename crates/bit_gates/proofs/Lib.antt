@@ -1,0 +1,4 @@
+pub mod Arenas
+pub mod Folding
+pub mod Pairs
+pub mod Places
