@@ -4,7 +4,7 @@ use Rattle.std.proofs.lemmas.List.{get_or_append_left, get_or_at}
 use Rattle.bit_gates.specs.declared.lit.Gate.{Gate}
 use Rattle.bit_gates.specs.declared.lit.Gate.TheVariants as gate
 use Rattle.bit_gates.specs.declared.lit.Lit.{Lit}
-use Rattle.bit_gates.specs.Formulas.{signed, value_in, gate_meaning, values_onto, value_of, Extends, IsGateBelow, AreGatesFrom}
+use Rattle.bit_gates.specs.Formulas.{signed, value_in, gate_meaning, values_onto, value_of, Extends, IsGateBelow, AreGatesFrom, negated}
 
 -- gates stand in themselves
 pub extends_same : (gs : List Gate) → Extends gs gs
@@ -68,7 +68,7 @@ from_push inputs n [] g h d = (below_moved inputs (n + 0) n g (omega arith) d, t
 from_push inputs n (f ∷ gs) g h d = (h.0, from_push inputs (n + 1) gs g h.1 (below_moved inputs (n + length (f ∷ gs)) (n + 1 + length gs) g (omega arith) d))
 
 -- the operands of the gate at a place of gates
-from_at : (inputs n : ℕ) (gs : List Gate) (i : ℕ) (g : Gate) → AreGatesFrom inputs n gs → i < length gs → g ≡ get_or gs i g → IsGateBelow inputs (n + i) g
+pub from_at : (inputs n : ℕ) (gs : List Gate) (i : ℕ) (g : Gate) → AreGatesFrom inputs n gs → i < length gs → g ≡ get_or gs i g → IsGateBelow inputs (n + i) g
 from_at inputs n [] i g h lt e = absurd (omega arith)
 from_at inputs n (f ∷ gs) zero g h lt e = below_moved inputs n (n + 0) g (omega arith) (subst (λ (x : Gate). IsGateBelow inputs n x) (sym e) h.0)
 from_at inputs n (f ∷ gs) (suc i) g h lt e = below_moved inputs (n + 1 + i) (n + suc i) g (omega arith) (from_at inputs (n + 1) gs i g h.1 (omega arith) e)
@@ -108,3 +108,13 @@ value_at inputs gs bits i g a lt e =
     value_kept (h.front ++ g ∷ []) gs bits (record { place = i; positive = true }) through (omega (arith, length-append h.front (g ∷ [])))
     ∙ value_added h.front bits g i (sym place)
     ∙ meaning_same (value_of h.front bits) (value_of gs bits) bits inputs i g below (λ b less. sym (value_kept h.front gs bits b before (omega arith)))
+
+-- the value of a negation
+pub value_negated : (gs : List Gate) (bits : List Bool) (a : Lit) → value_of gs bits (negated a) ≡ not (value_of gs bits a)
+unfolding value_of
+value_negated gs bits a = turn a.positive (get_or (values_onto bits [] gs) a.place false)
+  where
+    turn : (s v : Bool) → signed (not s) v ≡ not (signed s v)
+    turn true v = refl
+    turn false true = refl
+    turn false false = refl

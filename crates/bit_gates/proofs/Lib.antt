@@ -1,4 +1,5 @@
 pub mod Arenas
+mod Behind
 pub mod Folding
 pub mod Pairs
 pub mod Places

@@ -2,7 +2,7 @@
 use Rattle.std.proofs.Common.{◌≡◌, ◌==◌, ℕ, zero, suc, ◌+◌, ◌<◌, ◌≤◌, Bool, true, false, not, ◌&&◌, List, [], ◌∷◌, ◌++◌, length, get_or, refl, sym, ap, subst, arith, ◌∙◌, length-append, nat_lt, if◌then◌else◌, Option, Some, None, unwrap_or, is_some}
 use Rattle.std.specs.Bool.{beq}
 use Rattle.std.specs.Cmp.{booleans_Decides}
-use Rattle.std.specs.List.{position_or_len, list_any}
+use Rattle.std.specs.List.{position_or_len}
 use Rattle.std.proofs.lemmas.Bool.{eqb-true}
 use Rattle.std.proofs.lemmas.Bool.Decides.{nat_tests}
 use Rattle.std.proofs.lemmas.List.Sums.{passes_at_first}
@@ -11,7 +11,7 @@ use Rattle.bit_gates.specs.declared.lit.Gate.TheVariants as gate
 use Rattle.bit_gates.specs.declared.lit.Lit.{Lit}
 use Rattle.bit_gates.specs.contracts.lit.GatePartialEq.TheImpl.{eq-value}
 use Rattle.bit_gates.specs.Formulas.{signed, value_in, values_onto, value_of, gate_meaning, Extends, IsGateBelow, AreGatesFrom, lit_of, negated, same_lit, same_gate, folded, and_gate, and_place, and_lit, placed, and_gates}
-use Rattle.bit_gates.proofs.Arenas.{extends_same, extends_push, value_kept, value_added, value_at, from_push}
+use Rattle.bit_gates.proofs.Arenas.{extends_same, extends_push, value_negated, value_kept, value_added, value_at, from_push}
 use Rattle.bit_gates.proofs.Folding.{lit_same, Valuation, folded_swap, folded_below, folded_value, unfolded_apart}
 use Rattle.bit_gates.proofs.Places.{Standing, there, next, standing, place_le, place_again, placed_there, placed_next}
 
@@ -102,13 +102,6 @@ gate_value f bits a b = elim (ordered a b) [
     turn false true = refl
     turn false false = refl
 
--- its operands are the two
-gate_below : (inputs n : ℕ) (a b : Lit) → a.place < n → b.place < n → IsGateBelow inputs n (and_gate a b)
-gate_below inputs n a b l r = elim (ordered a b) [
-  | straight e ↦ rw e (l, r)
-  | turned e ↦ rw e (r, l)
-  ]
-
 -- where no gate is needed, the literal and the gates
 lit_folded : (gs : List Gate) (a b c : Lit) → folded a b ≡ Some c → and_lit gs a b ≡ c
 lit_folded gs a b c e = ap (λ (o : Option Lit). unwrap_or o (record { place = and_place gs a b; positive = true })) e
@@ -171,26 +164,17 @@ and_below gs a b l r = by (folded a b) refl
       | next i ↦ rw (gates_placed gs a b e, placed_next gs (and_place gs a b) (and_gate a b) i, lit_placed gs a b e) (omega (arith, length-append gs (and_gate a b ∷ [])))
       ]
 
--- the gates are those of an arena
-pub and_from : (inputs n : ℕ) (gs : List Gate) (a b : Lit) → AreGatesFrom inputs n gs → a.place < n + length gs → b.place < n + length gs → AreGatesFrom inputs n (gs ++ and_gate a b ∷ [])
-and_from inputs n gs a b h l r = from_push inputs n gs (and_gate a b) h (gate_below inputs (n + length gs) a b l r)
-
 -- the values of the literals of an arena whose first gate is True
 pub valued : (keys : List Gate) (bits : List Bool) → Valuation (value_of (gate.True ∷ keys) bits)
 unfolding value_of
 valued keys bits = record {
   constant = λ v. value_kept (gate.True ∷ []) (gate.True ∷ keys) bits (lit_of v) (record { more = keys; is = refl }) (omega arith) ∙ at v;
-  negation = λ a. turn a.positive (get_or (values_onto bits [] (gate.True ∷ keys)) a.place false)
+  negation = value_negated (gate.True ∷ keys) bits
 }
   where
     at : (v : Bool) → value_of (gate.True ∷ []) bits (lit_of v) ≡ v
     at true = refl
     at false = refl
-
-    turn : (s v : Bool) → signed (not s) v ≡ not (signed s v)
-    turn true v = refl
-    turn false true = refl
-    turn false false = refl
 
 -- the literal is true where both are
 pub and_value : (inputs : ℕ) (keys : List Gate) (bits : List Bool) (a b : Lit) → AreGatesFrom inputs 0 (gate.True ∷ keys) → value_of (and_gates (gate.True ∷ keys) a b) bits (and_lit (gate.True ∷ keys) a b) ≡ (value_of (gate.True ∷ keys) bits a && value_of (gate.True ∷ keys) bits b)
@@ -206,13 +190,3 @@ and_value inputs keys bits a b h = by (folded a b) refl
           )
       | next i ↦ rw (gates_placed (gate.True ∷ keys) a b e, placed_next (gate.True ∷ keys) (and_place (gate.True ∷ keys) a b) (and_gate a b) i, lit_placed (gate.True ∷ keys) a b e) (value_added (gate.True ∷ keys) bits (and_gate a b) (and_place (gate.True ∷ keys) a b) i ∙ gate_value (value_of (gate.True ∷ keys) bits) bits a b)
       ]
-
--- an input that no gate has yet is no key
-pub input_new : (inputs n : ℕ) (keys : List Gate) → AreGatesFrom inputs n keys → list_any (eq-value.it (gate.Input inputs)) keys ≡ false
-input_new inputs n [] h = refl
-input_new inputs n (g ∷ keys) h = rw (other g h.0, input_new inputs (n + 1) keys h.1) refl
-  where
-    other : (x : Gate) → IsGateBelow inputs n x → eq-value.it (gate.Input inputs) x ≡ false
-    other gate.True d = refl
-    other (gate.Input i) d = grind (arith, nat_tests)
-    other (gate.And a b) d = refl

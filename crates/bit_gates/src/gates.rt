@@ -1,6 +1,7 @@
+ghost use Rattle.std.specs.List.{position_or_len};
 ghost use Rattle.std.specs.Prelude.{◌≡◌, ◌<◌, ◌+◌, ◌&&◌, not, Bool, true, false, List, [], ◌∷◌, ◌++◌, length, slice_get, slice_index_or, Some, IfOk, OnErr};
 ghost use Rattle.bit_gates.specs.declared.lit.Gate.TheVariants as gate;
-ghost use Rattle.bit_gates.specs.Formulas.{Extends, IsGateBelow, value_of, gate_meaning, negated, and_lit, and_gates};
+ghost use Rattle.bit_gates.specs.Formulas.{Extends, IsGateBelow, AreGatesFrom, value_in, values_onto, value_of, gate_meaning, negated, same_gate, folded, and_gate, placed, and_lit, and_gates};
 
 use crate::{Bits, Gate, Lit};
 use indexmap::IndexSet;
@@ -26,6 +27,74 @@ impl Model for Gates {
     ghost view = { λ g. record { gates = gate.True ∷ g.gates.keys; inputs = g.inputs } };
 
     ghost invariant = { λ g. AreBehindTrue g.inputs g.gates.keys };
+}
+
+// The conjunction of two literals where no gate is needed.
+fn folded(a: Lit, b: Lit) -> Option<Lit>
+    ensures { result ≡ folded a b }
+{
+    let wrong = Lit {
+        place: 0,
+        positive: false,
+    };
+    if a.place == 0 {
+        Some(if a.positive { b } else { wrong })
+    } else if b.place == 0 {
+        Some(if b.positive { a } else { wrong })
+    } else if a.place == b.place {
+        Some(if a.positive == b.positive { a } else { wrong })
+    } else {
+        None
+    }
+}
+
+// The same two literals, the earlier place first.
+fn ordered(a: Lit, b: Lit) -> (Lit, Lit)
+    ensures { gate.And result.0 result.1 ≡ and_gate a b }
+{
+    if a.place < b.place {
+        (a, b)
+    } else {
+        (b, a)
+    }
+}
+
+// The value of a literal, where the gates up to its own have the values `values`.
+fn literal_value(values: &[bool], a: Lit) -> bool
+    requires { a.place < length values.now }
+    ensures { result ≡ value_in values.now a }
+{
+    if a.positive {
+        values[a.place]
+    } else {
+        !values[a.place]
+    }
+}
+
+// The value of a gate, where the gates before it have the values `values`.
+fn meaning(gate: &Gate, values: &[bool], bits: &Bits) -> bool
+    requires { IsGateBelow (length bits.now) (length values.now) gate.now }
+    ensures { result ≡ gate_meaning (value_in values.now) bits.now gate.now }
+{
+    match *gate {
+        Gate::True => true,
+        Gate::Input(i) => bits.get(i).unwrap_or(false),
+        Gate::And(a, b) => literal_value(values, a) && literal_value(values, b),
+    }
+}
+
+// The values of `True` and the gates behind it.
+fn values_of(alloc: Global, gates: &[Gate], bits: &Bits) -> Result<Vec<bool>, NoMemory>
+    requires { AreGatesFrom (length bits.now) 1 gates.now }
+    ensures { IfOk result (λ vs. vs.items ≡ values_onto bits.now [] (gate.True ∷ gates.now)) }
+{
+    let mut values = Vec::new(alloc);
+    values.push(true)?;
+    for gate in gates {
+        let v = meaning(gate, &values, bits);
+        values.push(v)?;
+    }
+    Ok(values)
 }
 
 impl Gates {
@@ -57,6 +126,20 @@ impl Gates {
         })
     }
 
+    // The place of an `And` gate, which is added where it does not stand yet.
+    fn insert(&mut self, a: Lit, b: Lit) -> Result<usize, NoMemory>
+        requires left { a.place < length self.old.gates }
+        requires right { b.place < length self.old.gates }
+        ensures place { IfOk result (λ i. i ≡ position_or_len (same_gate (gate.And a b)) self.old.gates) }
+        ensures gates { IfOk result (λ i. self.new.gates ≡ placed self.old.gates i (gate.And a b)) }
+        ensures inputs { self.new.inputs ≡ self.old.inputs }
+        ensures refused { OnErr result (self.new ≡ self.old) }
+    {
+        let next = self.len();
+        let (index, added) = self.gates.insert_full(Gate::And(a, b))?;
+        Ok(if added { next } else { index + 1 })
+    }
+
     /// The literal that is true where both are. A pair that was seen gives the same literal again.
     pub fn and(&mut self, a: Lit, b: Lit) -> Result<Lit, NoMemory>
         requires left { a.place < length self.old.gates }
@@ -69,10 +152,18 @@ impl Gates {
         ensures inputs { self.new.inputs ≡ self.old.inputs }
         ensures refused { OnErr result (self.new ≡ self.old) }
     {
-        if a.place == b.place {
-            return Err(NoMemory);
+        let _ = &self.gates;
+        match folded(a, b) {
+            Some(c) => Ok(c),
+            None => {
+                let (first, second) = ordered(a, b);
+                let place = self.insert(first, second)?;
+                Ok(Lit {
+                    place,
+                    positive: true,
+                })
+            }
         }
-        Err(NoMemory)
     }
 
     /// The negation.
@@ -91,6 +182,7 @@ impl Gates {
         ensures below { result.place < length self.now.gates }
         ensures value { (bits : List Bool) → value_of self.now.gates bits result ≡ v }
     {
+        let _ = &self.gates;
         Lit {
             place: 0,
             positive: v,
@@ -103,11 +195,8 @@ impl Gates {
         requires bits { length bits.now ≡ self.now.inputs }
         ensures { IfOk result (λ v. v ≡ value_of self.now.gates bits.now a) }
     {
-        let _values = Bits::new(alloc);
-        if a.place == bits.len() {
-            return Err(NoMemory);
-        }
-        Err(NoMemory)
+        let values = values_of(alloc, &self.gates.as_slice()[..a.place], bits)?;
+        Ok(literal_value(&values, a))
     }
 
     /// The number of gates, at least 1.
@@ -124,7 +213,11 @@ impl Gates {
         ensures below { IsGateBelow self.now.inputs i result }
         ensures value { (bits : List Bool) → value_of self.now.gates bits (record { place = i; positive = true }) ≡ gate_meaning (value_of self.now.gates bits) bits result }
     {
-        Gate::True
+        if i == 0 {
+            Gate::True
+        } else {
+            self.gates.as_slice()[i - 1]
+        }
     }
 
     /// The place of the gate of a literal.
