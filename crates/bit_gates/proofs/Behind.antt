@@ -32,7 +32,7 @@ input_keys inputs keys new h e = e ∙ ap (λ (b : Bool). if b then keys else ke
 pub behind_input : (inputs : ℕ) (keys new : List Gate) → AreBehindTrue inputs keys → new ≡ keys ++ gate.Input inputs ∷ [] → AreBehindTrue (inputs + 1) new
 behind_input inputs keys new h e = rw e (record {
   below = from_push (inputs + 1) 1 keys (gate.Input inputs) (from_more inputs (inputs + 1) 1 keys (omega arith) h.below) (omega arith);
-  room = omega (arith, length-append keys (gate.Input inputs ∷ []))
+  room = omega (arith, length-append keys (gate.Input inputs ∷ []));
 })
 
 -- gates with an And gate, which goes last or is there

@@ -70,14 +70,14 @@ gate_itself : (a b : Lit) → same_gate (and_gate a b) (and_gate a b) ≡ true
 gate_itself a b = elim (ordered a b) [
   | straight e ↦ rw e (rw (lit_itself a, lit_itself b) refl)
   | turned e ↦ rw e (rw (lit_itself b, lit_itself a) refl)
-  ]
+]
 
 -- the gate that the test calls equal to the gate of two literals
 gate_told : (a b : Lit) (g : Gate) → same_gate (and_gate a b) g ≡ true → and_gate a b ≡ g
 gate_told a b g h = elim (ordered a b) [
   | straight e ↦ e ∙ and_told a b g (rw e at h)
   | turned e ↦ e ∙ and_told b a g (rw e at h)
-  ]
+]
 
 -- two literals of different places have one gate
 gate_swap : (a b : Lit) → (a.place == b.place) ≡ false → and_gate b a ≡ and_gate a b
@@ -94,7 +94,7 @@ gate_value : (f : Lit → Bool) (bits : List Bool) (a b : Lit) → gate_meaning 
 gate_value f bits a b = elim (ordered a b) [
   | straight e ↦ rw e refl
   | turned e ↦ rw e (turn (f b) (f a))
-  ]
+]
   where
     turn : (x y : Bool) → (x && y) ≡ (y && x)
     turn true true = refl
@@ -151,7 +151,7 @@ and_grown gs a b = by (folded a b) refl
     by None e = elim (standing gs (and_place gs a b) (place_le (same_gate (and_gate a b)) gs)) [
       | there lt ↦ rw (gates_placed gs a b e, placed_there gs (and_place gs a b) (and_gate a b) lt) (extends_same gs)
       | next i ↦ extends_push gs (and_gates gs a b) (and_gate a b) (gates_placed gs a b e ∙ placed_next gs (and_place gs a b) (and_gate a b) i)
-      ]
+    ]
 
 -- its literal is one of the arena
 pub and_below : (gs : List Gate) (a b : Lit) → a.place < length gs → b.place < length gs → (and_lit gs a b).place < length (and_gates gs a b)
@@ -162,14 +162,14 @@ and_below gs a b l r = by (folded a b) refl
     by None e = elim (standing gs (and_place gs a b) (place_le (same_gate (and_gate a b)) gs)) [
       | there lt ↦ rw (gates_placed gs a b e, placed_there gs (and_place gs a b) (and_gate a b) lt, lit_placed gs a b e) lt
       | next i ↦ rw (gates_placed gs a b e, placed_next gs (and_place gs a b) (and_gate a b) i, lit_placed gs a b e) (omega (arith, length-append gs (and_gate a b ∷ [])))
-      ]
+    ]
 
 -- the values of the literals of an arena whose first gate is True
 pub valued : (keys : List Gate) (bits : List Bool) → Valuation (value_of (gate.True ∷ keys) bits)
 unfolding value_of
 valued keys bits = record {
   constant = λ v. value_kept (gate.True ∷ []) (gate.True ∷ keys) bits (lit_of v) (record { more = keys; is = refl }) (omega arith) ∙ at v;
-  negation = value_negated (gate.True ∷ keys) bits
+  negation = value_negated (gate.True ∷ keys) bits;
 }
   where
     at : (v : Bool) → value_of (gate.True ∷ []) bits (lit_of v) ≡ v
@@ -189,4 +189,4 @@ and_value inputs keys bits a b h = by (folded a b) refl
           ∙ gate_value (value_of (gate.True ∷ keys) bits) bits a b
           )
       | next i ↦ rw (gates_placed (gate.True ∷ keys) a b e, placed_next (gate.True ∷ keys) (and_place (gate.True ∷ keys) a b) (and_gate a b) i, lit_placed (gate.True ∷ keys) a b e) (value_added (gate.True ∷ keys) bits (and_gate a b) (and_place (gate.True ∷ keys) a b) i ∙ gate_value (value_of (gate.True ∷ keys) bits) bits a b)
-      ]
+    ]

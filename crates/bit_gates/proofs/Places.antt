@@ -66,4 +66,4 @@ pub place_again : (p : Gate → Bool) (gs later : List Gate) (g : Gate) → p g 
 place_again p gs later g t h = elim (standing gs (position_or_len p gs) (place_le p gs)) [
   | there lt ↦ rw (h.is, placed_there gs (position_or_len p gs) g lt) (place_kept p gs h.more lt)
   | next e ↦ rw (h.is, placed_next gs (position_or_len p gs) g e, append_assoc gs (g ∷ []) h.more) (place_next p gs h.more g e t ∙ sym e)
-  ]
+]

@@ -52,11 +52,7 @@ fn folded(a: Lit, b: Lit) -> Option<Lit>
 fn ordered(a: Lit, b: Lit) -> (Lit, Lit)
     ensures { gate.And result.0 result.1 ≡ and_gate a b }
 {
-    if a.place < b.place {
-        (a, b)
-    } else {
-        (b, a)
-    }
+    if a.place < b.place { (a, b) } else { (b, a) }
 }
 
 // The value of a literal, where the gates up to its own have the values `values`.
@@ -117,11 +113,11 @@ impl Gates {
         ensures value { IfOk result (λ a. (bits : List Bool) → value_of self.new.gates bits a ≡ slice_index_or bits self.old.inputs false) }
         ensures refused { OnErr result (self.new ≡ self.old) }
     {
-        let place = self.len();
+        let next = self.len();
         self.gates.insert(Gate::Input(self.inputs))?;
         self.inputs += 1;
         Ok(Lit {
-            place,
+            place: next,
             positive: true,
         })
     }

@@ -5,9 +5,13 @@
 
 mod bits;
 mod gates;
-pub mod laws;
+mod laws;
 mod lit;
 
 pub use bits::Bits;
 pub use gates::Gates;
+pub use laws::{seen_again, value_kept};
 pub use lit::{Gate, Lit};
+
+#[cfg(test)]
+mod tests;

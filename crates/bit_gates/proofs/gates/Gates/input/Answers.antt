@@ -21,4 +21,4 @@ returns-clause-value c = λ bits.
     let gs : List Gate = gate.True ∷ c.self.inside.gates.keys in
     let e = input_keys c.self.inside.inputs c.self.inside.gates.keys c.insert.new.self.keys c.self.invariant c.in_ok-insert.ensures.keys in
     let v : length c.args.self.now.gates ≡ length gs = ap (λ (x : Arena). length x.gates) (sym c.self.view_is) in
-    rw (e, ← c.self.view_is) (value_added (gate.True ∷ c.self.inside.gates.keys) bits (gate.Input c.self.inside.inputs) c.len-place.result (c.len-place.ensures ∙ v))
+    rw (e, ← c.self.view_is) (value_added (gate.True ∷ c.self.inside.gates.keys) bits (gate.Input c.self.inside.inputs) c.len-next.result (c.len-next.ensures ∙ v))

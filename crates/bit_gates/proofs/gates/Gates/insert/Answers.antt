@@ -17,8 +17,8 @@ returns-clause-place c =
     let v : gate.True ∷ c.self.inside.gates.keys ≡ c.args.self.now.gates = ap (λ (x : Arena). x.gates) c.self.view_is in
     let m = ap (λ (gs : List Gate). position_or_len (same_gate (gate.And c.args.a c.args.b)) gs) v in
     elim c.if-added.branch [
-    | then-added w ↦ w.result-is ∙ c.len-next.ensures ∙ ap (λ (gs : List Gate). length gs) (sym v) ∙ sym (and_added c.self.inside.gates.keys c.args.a c.args.b c.in_ok-index.added c.in_ok-index.ensures.added w.if-added.true) ∙ m
-    | else-added w ↦ w.result-is ∙ ap (λ (n : ℕ). n + 1) c.in_ok-index.ensures.index ∙ sym (and_index c.self.inside.gates.keys c.args.a c.args.b) ∙ m
+      | then-added w ↦ w.result-is ∙ c.len-next.ensures ∙ ap (λ (gs : List Gate). length gs) (sym v) ∙ sym (and_added c.self.inside.gates.keys c.args.a c.args.b c.in_ok-index.added c.in_ok-index.ensures.added w.if-added.true) ∙ m
+      | else-added w ↦ w.result-is ∙ ap (λ (n : ℕ). n + 1) c.in_ok-index.ensures.index ∙ sym (and_index c.self.inside.gates.keys c.args.a c.args.b) ∙ m
     ]
 
 pub returns-clause-gates : goal.returns-clause-gates
