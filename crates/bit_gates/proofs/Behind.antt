@@ -1,5 +1,5 @@
 -- The gates behind True, as a set of gates keeps them.
-use Rattle.std.proofs.Common.{◌≡◌, ◌==◌, ℕ, zero, suc, ◌+◌, ◌-◌, ◌<◌, ◌≤◌, Bool, true, false, not, ◌||◌, Some, slice_get, List, [], ◌∷◌, ◌++◌, length, take, drop, get_or, refl, sym, ap, subst, arith, ◌∙◌, length-append, if◌then◌else◌}
+use Rattle.std.proofs.Common.{◌≡◌, ℕ, zero, suc, ◌+◌, ◌-◌, ◌<◌, Bool, true, false, not, Some, slice_get, List, [], ◌∷◌, ◌++◌, length, take, drop, get_or, refl, sym, ap, subst, arith, ◌∙◌, length-append, if◌then◌else◌}
 use Rattle.std.specs.List.{position_or_len, list_any}
 use Rattle.std.proofs.lemmas.Bool.Decides.{nat_tests}
 use Rattle.std.proofs.lemmas.Option.{slice_get-get_or}
@@ -9,7 +9,7 @@ use Rattle.bit_gates.specs.declared.lit.Gate.{Gate}
 use Rattle.bit_gates.specs.declared.lit.Gate.TheVariants as gate
 use Rattle.bit_gates.specs.declared.lit.Lit.{Lit}
 use Rattle.bit_gates.specs.contracts.lit.GatePartialEq.TheImpl.{eq-value}
-use Rattle.bit_gates.specs.Formulas.{value_in, values_onto, value_of, gate_meaning, Extends, IsGateBelow, AreGatesFrom, AreBehindTrue, same_gate, placed}
+use Rattle.bit_gates.specs.Formulas.{value_in, values_onto, value_of, gate_meaning, IsGateBelow, AreGatesFrom, AreBehindTrue, same_gate, placed}
 use Rattle.bit_gates.proofs.Arenas.{length_onto, onto_append, value_kept, from_more, from_push, from_at}
 use Rattle.bit_gates.proofs.Pairs.{same_gate_eq}
 use Rattle.bit_gates.proofs.Places.{placed_there, placed_next}

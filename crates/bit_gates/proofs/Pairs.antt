@@ -1,5 +1,5 @@
 -- The conjunction of two literals in an arena: its literal, its gates and its value.
-use Rattle.std.proofs.Common.{◌≡◌, ◌==◌, ℕ, zero, suc, ◌+◌, ◌<◌, ◌≤◌, Bool, true, false, not, ◌&&◌, List, [], ◌∷◌, ◌++◌, length, get_or, refl, sym, ap, subst, arith, ◌∙◌, length-append, nat_lt, if◌then◌else◌, Option, Some, None, unwrap_or, is_some}
+use Rattle.std.proofs.Common.{◌≡◌, ◌==◌, ℕ, ◌<◌, Bool, true, false, ◌&&◌, List, [], ◌∷◌, length, get_or, refl, sym, ap, subst, arith, ◌∙◌, length-append, nat_lt, if◌then◌else◌, Option, Some, None, unwrap_or, is_some}
 use Rattle.std.specs.Bool.{beq}
 use Rattle.std.specs.Cmp.{booleans_Decides}
 use Rattle.std.specs.List.{position_or_len}
@@ -10,10 +10,10 @@ use Rattle.bit_gates.specs.declared.lit.Gate.{Gate}
 use Rattle.bit_gates.specs.declared.lit.Gate.TheVariants as gate
 use Rattle.bit_gates.specs.declared.lit.Lit.{Lit}
 use Rattle.bit_gates.specs.contracts.lit.GatePartialEq.TheImpl.{eq-value}
-use Rattle.bit_gates.specs.Formulas.{signed, value_in, values_onto, value_of, gate_meaning, Extends, IsGateBelow, AreGatesFrom, lit_of, negated, same_lit, same_gate, folded, and_gate, and_place, and_lit, placed, and_gates}
-use Rattle.bit_gates.proofs.Arenas.{extends_same, extends_push, value_negated, value_kept, value_added, value_at, from_push}
+use Rattle.bit_gates.specs.Formulas.{value_of, gate_meaning, Extends, AreGatesFrom, lit_of, same_lit, same_gate, folded, and_gate, and_place, and_lit, placed, and_gates}
+use Rattle.bit_gates.proofs.Arenas.{extends_same, extends_push, value_negated, value_kept, value_added, value_at}
 use Rattle.bit_gates.proofs.Folding.{lit_same, Valuation, folded_swap, folded_below, folded_value, unfolded_apart}
-use Rattle.bit_gates.proofs.Places.{Standing, there, next, standing, place_le, place_again, placed_there, placed_next}
+use Rattle.bit_gates.proofs.Places.{there, next, standing, place_le, place_again, placed_there, placed_next}
 
 -- the derived test of equal gates
 pub same_gate_eq : (g h : Gate) → eq-value.it g h ≡ same_gate g h

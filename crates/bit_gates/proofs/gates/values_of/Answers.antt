@@ -1,7 +1,7 @@
-use Rattle.std.proofs.Common.{◌≡◌, ◌∷◌, ◌++◌, [], List, Bool, length, take, get_or, sym, ap, ◌∙◌}
+use Rattle.std.proofs.Common.{◌∷◌, ◌++◌, [], List, Bool, length, get_or, sym, ap, ◌∙◌}
 use Rattle.bit_gates.specs.declared.lit.Gate.{Gate}
 use Rattle.bit_gates.specs.declared.lit.Gate.TheVariants as gate
-use Rattle.bit_gates.specs.Formulas.{values_onto, value_in, gate_meaning}
+use Rattle.bit_gates.specs.Formulas.{value_in, gate_meaning}
 use Rattle.bit_gates.proofs.Behind.{onto_next, next_below, same_element}
 use Rattle.bit_gates.proofs.gates.values_of.Goals as goal
 

@@ -1,9 +1,9 @@
-use Rattle.std.proofs.Common.{◌≡◌, ℕ, ◌<◌, ◌∷◌, List, None, Some, true, length, sym, ap, subst, ◌∙◌}
+use Rattle.std.proofs.Common.{◌≡◌, ℕ, ◌<◌, ◌∷◌, None, Some, true, length, sym, ap, subst, ◌∙◌}
 use Rattle.std.specs.List.{position_or_len}
 use Rattle.bit_gates.specs.declared.lit.Gate.{Gate}
 use Rattle.bit_gates.specs.declared.lit.Gate.TheVariants as gate
 use Rattle.bit_gates.specs.declared.lit.Lit.{Lit}
-use Rattle.bit_gates.specs.Formulas.{value_of, folded, same_gate, and_gate, placed, and_place, and_lit, and_gates}
+use Rattle.bit_gates.specs.Formulas.{value_of, folded, same_gate, placed, and_place, and_lit, and_gates}
 use Rattle.bit_gates.proofs.Folding.{folded_value}
 use Rattle.bit_gates.proofs.Pairs.{valued, lit_placed, gates_placed, and_below, and_value}
 use Rattle.bit_gates.proofs.gates.Gates.and.Goals as goal

@@ -1,7 +1,7 @@
-use Rattle.std.proofs.Common.{◌≡◌, [], ◌∷◌, ◌++◌, List, length, true, sym, ap, ◌∙◌}
+use Rattle.std.proofs.Common.{◌≡◌, ◌∷◌, List, length, sym, ap, ◌∙◌}
 use Rattle.bit_gates.specs.declared.lit.Gate.{Gate}
 use Rattle.bit_gates.specs.declared.lit.Gate.TheVariants as gate
-use Rattle.bit_gates.specs.Formulas.{Arena, value_of}
+use Rattle.bit_gates.specs.Formulas.{Arena}
 use Rattle.bit_gates.proofs.Arenas.{value_added}
 use Rattle.bit_gates.proofs.Behind.{input_keys, behind_input}
 use Rattle.bit_gates.proofs.gates.Gates.input.Goals as goal
