@@ -84,6 +84,7 @@ record Split (gs : List Gate) (i : ℕ) (g : Gate) : Type 0 where
   is : gs ≡ front ++ g ∷ back
   place : length front ≡ i
 
+-- each place that is there splits the list
 split : (gs : List Gate) (i : ℕ) (g : Gate) → i < length gs → g ≡ get_or gs i g → Split gs i g
 split [] i g lt e = absurd (omega arith)
 split (f ∷ gs) zero g lt e = record { front = []; back = gs; is = ap (λ (x : Gate). x ∷ gs) (sym e); place = refl }

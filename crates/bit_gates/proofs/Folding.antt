@@ -22,9 +22,11 @@ record Told (x y z p q : Bool) (a b : Lit) : Type 0 where
   sign : a.positive ≡ p
   other : b.positive ≡ q
 
+-- the tests tell it
 told : (a b : Lit) → Told (a.place == 0) (b.place == 0) (a.place == b.place) a.positive b.positive a b
 told a b = record { left = eqb-true a.place 0; right = eqb-true b.place 0; same = eqb-true a.place b.place; sign = refl; other = refl }
 
+-- the other order, by the tests
 swap : (x y z p q : Bool) (a b : Lit) → Told x y z p q a b → shape y x z q p b a ≡ shape x y z p q a b
 swap true true z true true a b h = ap Some (lit_same a b (h.left refl ∙ sym (h.right refl)) (h.sign ∙ sym h.other))
 swap true true z true false a b h = ap Some (lit_same (lit_of false) b (sym (h.right refl)) (sym h.other))
@@ -45,6 +47,7 @@ folded_swap a b =
     ap (λ (z : Bool). shape (b.place == 0) (a.place == 0) z b.positive a.positive b a) e
     ∙ swap (a.place == 0) (b.place == 0) (a.place == b.place) a.positive b.positive a b (told a b)
 
+-- a literal of the arena, by the tests
 below : (x y z p q : Bool) (a b c : Lit) (n : ℕ) → a.place < n → b.place < n → shape x y z p q a b ≡ Some c → c.place < n
 below true y z true q a b c n s t e = let h : b ≡ c = cc in let g : b.place ≡ c.place = ap (λ (l : Lit). l.place) h in omega arith
 below true y z false q a b c n s t e = let h : lit_of false ≡ c = cc in let g : 0 ≡ c.place = ap (λ (l : Lit). l.place) h in omega arith
@@ -70,18 +73,22 @@ unfolded_apart a b e = by (a.place == 0) (b.place == 0) (a.place == b.place) a.p
     by false false true p q h = cc
     by false false false p q h = refl
 
+-- both of one truth value
 and_same : (x : Bool) → x ≡ (x && x)
 and_same true = refl
 and_same false = refl
 
+-- true beside a truth value
 and_true : (x : Bool) → x ≡ (x && true)
 and_true true = refl
 and_true false = refl
 
+-- false beside a truth value
 and_false : (x : Bool) → false ≡ (x && false)
 and_false true = refl
 and_false false = refl
 
+-- a truth value and its opposite
 and_not : (x : Bool) → false ≡ (x && not x)
 and_not true = refl
 and_not false = refl
@@ -92,9 +99,11 @@ pub record Valuation (f : Lit → Bool) : Type 0 where
   pub negation : (a : Lit) → f (negated a) ≡ not (f a)
 
 module _ (f : Lit → Bool) (v : Valuation f) where
+  -- the value of a literal of place 0
   is_constant : (a : Lit) (s : Bool) → a.place ≡ 0 → a.positive ≡ s → f a ≡ s
   is_constant a s p q = ap f (lit_same a (lit_of s) p q) ∙ v.constant s
 
+  -- true where both are, by the tests
   value : (x y z p q : Bool) (a b c : Lit) → Told x y z p q a b → shape x y z p q a b ≡ Some c → f c ≡ (f a && f b)
   value true y z true q a b c t e = let h : b ≡ c = cc in sym (ap f h) ∙ ap (λ (u : Bool). u && f b) (sym (is_constant a true (t.left refl) t.sign))
   value true y z false q a b c t e = let h : lit_of false ≡ c = cc in sym (ap f h) ∙ v.constant false ∙ ap (λ (u : Bool). u && f b) (sym (is_constant a false (t.left refl) t.sign))

@@ -58,6 +58,7 @@ data Ordered (a b : Lit) (g : Gate) : Type 0 where
   straight : g ≡ gate.And a b → Ordered a b g
   turned : g ≡ gate.And b a → Ordered a b g
 
+-- by the test of the places
 ordered : (a b : Lit) → Ordered a b (and_gate a b)
 ordered a b = by (nat_lt a.place b.place) refl
   where
@@ -102,17 +103,19 @@ gate_value f bits a b = elim (ordered a b) [
     turn false true = refl
     turn false false = refl
 
--- where no gate is needed, the literal and the gates
+-- where no gate is needed, the literal
 lit_folded : (gs : List Gate) (a b c : Lit) → folded a b ≡ Some c → and_lit gs a b ≡ c
 lit_folded gs a b c e = ap (λ (o : Option Lit). unwrap_or o (record { place = and_place gs a b; positive = true })) e
 
+-- and the gates
 gates_folded : (gs : List Gate) (a b c : Lit) → folded a b ≡ Some c → and_gates gs a b ≡ gs
 gates_folded gs a b c e = ap (λ (o : Option Lit). if is_some o then gs else placed gs (and_place gs a b) (and_gate a b)) e
 
--- where one is needed
+-- where one is needed, the literal
 pub lit_placed : (gs : List Gate) (a b : Lit) → folded a b ≡ None → and_lit gs a b ≡ record { place = and_place gs a b; positive = true }
 lit_placed gs a b e = ap (λ (o : Option Lit). unwrap_or o (record { place = and_place gs a b; positive = true })) e
 
+-- and the gates
 pub gates_placed : (gs : List Gate) (a b : Lit) → folded a b ≡ None → and_gates gs a b ≡ placed gs (and_place gs a b) (and_gate a b)
 gates_placed gs a b e = ap (λ (o : Option Lit). if is_some o then gs else placed gs (and_place gs a b) (and_gate a b)) e
 
