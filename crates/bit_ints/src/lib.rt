@@ -1,0 +1,13 @@
+//! Integers in two's complement whose digits are gates.
+//!
+//! A [`BitInt`] is a list of literals of an arena, from the lowest digit to the sign. Its operations are exact under
+//! every assignment of the arena's inputs.
+#![tactic(auto)]
+
+mod consts;
+mod digit;
+mod int;
+mod lists;
+
+pub use bit_gates::{Bits, Gates, Lit};
+pub use int::BitInt;
