@@ -1,10 +1,10 @@
 -- Literals of an arena that grows.
-use Rattle.std.proofs.Common.{◌≡◌, ℕ, zero, suc, ◌+◌, ◌-◌, ◌<◌, ◌≤◌, Bool, true, false, List, [], ◌∷◌, ◌++◌, length, map, get_or, refl, sym, ◌∙◌, ap, append_assoc, length-append, arith}
+use Rattle.std.proofs.Common.{◌≡◌, ℕ, zero, suc, ◌+◌, ◌-◌, ◌<◌, ◌≤◌, Bool, true, false, List, [], ◌∷◌, ◌++◌, length, map, drop, get_or, refl, sym, ◌∙◌, ap, append_assoc, length-append, arith}
 use Rattle.std.proofs.lemmas.List.{append-nil, get_or_push}
 use Rattle.bit_gates.specs.declared.lit.Gate.{Gate}
 use Rattle.bit_gates.specs.declared.lit.Lit.{Lit}
 use Rattle.bit_gates.specs.Formulas.{Extends, value_of}
-use Rattle.bit_gates.proofs.Kept.{value_kept}
+use Rattle.bit_gates.proofs.Arenas.{value_kept}
 use Rattle.bit_ints.specs.Integers.{AreBelow, values, with_sign_again, extended_by}
 
 -- an arena is what it was
@@ -94,3 +94,9 @@ pub extended_push : {A : Type 0} (k : ℕ) (xs : List A) (d : A) → 1 ≤ lengt
 extended_push k xs d h =
     let size = extended-length k xs h in
     rw (← extended_last k xs d h) (sym (again-push (extended_by k xs) (length xs + k - 1) d (omega arith)))
+
+-- what is left of literals of the arena
+pub below_drop : (n k : ℕ) (lits : List Lit) → AreBelow n lits → AreBelow n (drop k lits)
+below_drop n zero lits b = b
+below_drop n (suc k) [] b = tt
+below_drop n (suc k) (a ∷ lits) b = below_drop n k lits b.1

@@ -1,3 +1,6 @@
 pub mod Digits
 pub mod Sums
 pub mod Steps
+pub mod Orders
+pub mod Widths
+pub mod Equals

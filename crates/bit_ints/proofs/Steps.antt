@@ -4,7 +4,7 @@ use Rattle.std.proofs.lemmas.List.{length-map, map-append, get_or-map, drop_more
 use Rattle.bit_gates.specs.declared.lit.Gate.{Gate}
 use Rattle.bit_gates.specs.declared.lit.Lit.{Lit}
 use Rattle.bit_gates.specs.Formulas.{Extends, value_of}
-use Rattle.bit_gates.proofs.Kept.{value_kept}
+use Rattle.bit_gates.proofs.Arenas.{value_kept}
 use Rattle.bit_ints.specs.Integers.{AreBelow, values, zip_with, xor, most, sum_bits, are_same, with_sign_again, extended_by}
 use Rattle.bit_ints.proofs.Digits.{below_at, values_kept}
 

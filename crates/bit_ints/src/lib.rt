@@ -8,6 +8,8 @@ mod consts;
 mod digit;
 mod int;
 mod lists;
+mod ops;
 
 pub use bit_gates::{Bits, Gates, Lit};
 pub use int::BitInt;
+pub use ops::{add, bit_and, bit_or, bit_xor, eq, fits128, lt, sub};

@@ -1,6 +1,6 @@
 use Rattle.std.proofs.Common.{◌≡◌, ◌&&◌, ◌||◌, Bool, true, false, not, List, refl}
 use Rattle.bit_gates.specs.Formulas.{value_of}
-use Rattle.bit_gates.proofs.Kept.{value_kept}
+use Rattle.bit_gates.proofs.Arenas.{value_kept}
 use Rattle.bit_ints.specs.Integers.{xor}
 use Rattle.bit_ints.proofs.digit.xor.Goals as goal
 

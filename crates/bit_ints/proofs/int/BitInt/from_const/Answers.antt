@@ -55,3 +55,9 @@ returns-clause-value c = λ bits.
     let none : c.loop-rest.rest ≡ 0 = omega arith in
     let e = rw none at (c.loop-rest.invariant.value bits) in
     rw c.from_vec.ensures (last _ bits _ _ _ _ _ c.in_ok-push-2.ensures.items (c.constant-2.ensures.value bits) e ∙ to_z-of_z _ c.args.v c.ranges.v)
+
+pub returns-clause-few : goal.returns-clause-few
+returns-clause-few c = rw (c.from_vec.ensures, c.in_ok-push-2.ensures.items) (omega (arith, length-append c.loop-rest.lits.items (c.constant-2.result ∷ [])))
+
+pub returns-clause-some : goal.returns-clause-some
+returns-clause-some c = rw (c.from_vec.ensures, c.in_ok-push-2.ensures.items) (omega (arith, length-append c.loop-rest.lits.items (c.constant-2.result ∷ [])))
