@@ -71,11 +71,6 @@ are_same [] ys = true
 are_same (x ∷ xs) [] = true
 are_same (x ∷ xs) (y ∷ ys) = not (xor x y) && are_same xs ys
 
--- whether each digit is b
-abbrev pub are_all : Bool → List Bool → Bool
-are_all b [] = true
-are_all b (x ∷ xs) = not (xor b x) && are_all b xs
-
 -- whether an integer is from -m to m - 1
 abbrev pub is_within : ℕ → ℤ → Bool
 is_within m (pos n) = nat_lt n m

@@ -37,12 +37,7 @@ pub(crate) fn xor(g: &mut Gates, a: Lit, b: Lit) -> Result<Lit, NoMemory>
 }
 
 /// The digit of a sum at a place and the next carry.
-pub(crate) fn full_adder(
-    g: &mut Gates,
-    a: Lit,
-    b: Lit,
-    carry: Lit,
-) -> Result<(Lit, Lit), NoMemory>
+pub(crate) fn full_adder(g: &mut Gates, a: Lit, b: Lit, carry: Lit) -> Result<(Lit, Lit), NoMemory>
     requires left { a.place < length g.old.gates }
     requires right { b.place < length g.old.gates }
     requires carry { carry.place < length g.old.gates }

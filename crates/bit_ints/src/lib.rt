@@ -9,6 +9,8 @@ mod digit;
 mod int;
 mod lists;
 mod ops;
+#[cfg(test)]
+mod tests;
 
 pub use bit_gates::{Bits, Gates, Lit};
 pub use int::BitInt;

@@ -20,5 +20,5 @@ loop-i-preserved c =
       grown = grown_more _ _ _ c.loop-i.invariant.grown grown;
       inputs = cc;
       below = rw c.in_ok-push.ensures.items (below_push _ _ _ (below_later _ _ _ c.loop-i.invariant.below (grown_length _ _ grown)) c.in_ok-digit.ensures.below);
-      value = λ bits. zip_turn (meaning c.args.operation) _ _ _ bits _ _ _ _ c.loop-i.i _ _ _ _ c.loop-i.invariant.grown grown c.requires.left c.requires.right c.loop-i.invariant.below c.loop-i-test.true (omega arith) c.in_ok-push.ensures.items (c.in_ok-digit.ensures.value bits) (c.loop-i.invariant.value bits)
+      value = λ bits. zip_turn (meaning c.args.operation) _ _ _ bits _ _ _ _ c.loop-i.i _ _ _ _ c.loop-i.invariant.grown grown c.requires.left c.requires.right c.loop-i.invariant.below c.loop-i-test.true (omega arith) c.in_ok-push.ensures.items (c.in_ok-digit.ensures.value bits) (c.loop-i.invariant.value bits);
     }

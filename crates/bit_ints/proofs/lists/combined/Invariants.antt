@@ -10,5 +10,5 @@ invariant-loop-i l = record {
   grown : Extends l.initial.g.gates l.g.gates;
   inputs : l.g.inputs ≡ l.initial.g.inputs;
   below : AreBelow (length l.g.gates) l.digits.items;
-  value : (bits : List Bool) → values l.g.gates bits l.digits.items ++ zip_with (meaning l.operation) (drop l.i (values l.initial.g.gates bits l.xs)) (drop l.i (values l.initial.g.gates bits l.ys)) ≡ zip_with (meaning l.operation) (values l.initial.g.gates bits l.xs) (values l.initial.g.gates bits l.ys)
+  value : (bits : List Bool) → values l.g.gates bits l.digits.items ++ zip_with (meaning l.operation) (drop l.i (values l.initial.g.gates bits l.xs)) (drop l.i (values l.initial.g.gates bits l.ys)) ≡ zip_with (meaning l.operation) (values l.initial.g.gates bits l.xs) (values l.initial.g.gates bits l.ys);
 }

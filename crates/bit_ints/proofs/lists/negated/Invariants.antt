@@ -6,5 +6,5 @@ abbrev pub invariant-loop-i : goal.invariant-loop-i
 invariant-loop-i l = record {
   size : length l.digits.items ≡ l.i;
   below : AreBelow (length l.g.gates) l.digits.items;
-  value : (bits : List Bool) → values l.g.gates bits l.digits.items ≡ map not (values l.g.gates bits (take l.i l.lits))
+  value : (bits : List Bool) → values l.g.gates bits l.digits.items ≡ map not (values l.g.gates bits (take l.i l.lits));
 }

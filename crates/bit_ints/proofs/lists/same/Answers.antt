@@ -22,9 +22,9 @@ loop-i-preserved c =
       inputs = cc;
       below = c.in_ok-all.ensures.below;
       value = λ bits.
-        let all = value_kept _ _ bits c.loop-i.all c.in_ok-differ.ensures.grown c.loop-i.invariant.below in
-        let next = rw (all, c.not-agree.ensures.value bits, c.in_ok-differ.ensures.value bits) at (c.in_ok-all.ensures.value bits) in
-        same_turn _ _ bits _ _ c.loop-i.i _ _ _ _ _ c.loop-i.invariant.grown c.requires.left c.requires.right h c.loop-i-test.true next (c.loop-i.invariant.value bits)
+          let all = value_kept _ _ bits c.loop-i.all c.in_ok-differ.ensures.grown c.loop-i.invariant.below in
+          let next = rw (all, c.not-agree.ensures.value bits, c.in_ok-differ.ensures.value bits) at (c.in_ok-all.ensures.value bits) in
+          same_turn _ _ bits _ _ c.loop-i.i _ _ _ _ _ c.loop-i.invariant.grown c.requires.left c.requires.right h c.loop-i-test.true next (c.loop-i.invariant.value bits);
     }
 
 pub returns-clause-value : goal.returns-clause-value

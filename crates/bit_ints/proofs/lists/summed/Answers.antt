@@ -20,5 +20,5 @@ loop-i-preserved c =
       inputs = cc;
       below = rw c.in_ok-push.ensures.items (below_push _ _ _ (below_later _ _ _ c.loop-i.invariant.below (grown_length _ _ grown)) c.in_ok-digit.ensures.below.0);
       carry_below = c.in_ok-digit.ensures.below.1;
-      value = λ bits. sum_turn _ _ _ bits _ _ _ _ c.loop-i.i _ _ _ _ _ _ c.loop-i.invariant.grown grown c.requires.left c.requires.right c.loop-i.invariant.below c.loop-i-test.true (omega arith) c.in_ok-push.ensures.items (c.in_ok-digit.ensures.digit bits) (c.in_ok-digit.ensures.next bits) (c.loop-i.invariant.value bits)
+      value = λ bits. sum_turn _ _ _ bits _ _ _ _ c.loop-i.i _ _ _ _ _ _ c.loop-i.invariant.grown grown c.requires.left c.requires.right c.loop-i.invariant.below c.loop-i-test.true (omega arith) c.in_ok-push.ensures.items (c.in_ok-digit.ensures.digit bits) (c.in_ok-digit.ensures.next bits) (c.loop-i.invariant.value bits);
     }

@@ -10,5 +10,5 @@ invariant-loop-i l = record {
   inputs : l.g.inputs ≡ l.initial.g.inputs;
   below : AreBelow (length l.g.gates) l.digits.items;
   carry_below : l.carry.place < length l.g.gates;
-  value : (bits : List Bool) → values l.g.gates bits l.digits.items ++ sum_bits (value_of l.g.gates bits l.carry) (drop l.i (values l.initial.g.gates bits l.xs)) (drop l.i (values l.initial.g.gates bits l.ys)) ≡ sum_bits (value_of l.initial.g.gates bits l.initial.carry) (values l.initial.g.gates bits l.xs) (values l.initial.g.gates bits l.ys)
+  value : (bits : List Bool) → values l.g.gates bits l.digits.items ++ sum_bits (value_of l.g.gates bits l.carry) (drop l.i (values l.initial.g.gates bits l.xs)) (drop l.i (values l.initial.g.gates bits l.ys)) ≡ sum_bits (value_of l.initial.g.gates bits l.initial.carry) (values l.initial.g.gates bits l.xs) (values l.initial.g.gates bits l.ys);
 }

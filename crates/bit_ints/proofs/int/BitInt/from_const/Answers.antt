@@ -44,7 +44,7 @@ loop-rest-preserved c =
       below = rw is (below_push _ _ _ c.loop-rest.invariant.below c.constant.ensures.below);
       value = λ bits. step _ bits _ _ _ _ _ _ is (c.constant.ensures.value bits ∙ differ _ _) (c.loop-rest.invariant.value bits);
       small = rw (← less) smaller.0;
-      few = omega arith
+      few = omega arith;
     }
 
 pub returns-clause-below : goal.returns-clause-below

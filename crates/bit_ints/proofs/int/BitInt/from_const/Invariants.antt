@@ -8,7 +8,7 @@ invariant-loop-rest l = record {
   below : AreBelow (length l.g.gates) l.lits.items;
   value : (bits : List Bool) → onto (values l.g.gates bits l.lits.items) (signed l.negative l.rest) ≡ l.v;
   small : l.rest < 2 ^ (127 - length l.lits.items);
-  few : length l.lits.items ≤ 127
+  few : length l.lits.items ≤ 127;
 }
 
 abbrev pub decreases-loop-rest : goal.decreases-loop-rest
