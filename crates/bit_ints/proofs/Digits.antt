@@ -1,15 +1,11 @@
 -- Literals of an arena that grows.
-use Rattle.std.proofs.Common.{◌≡◌, ℕ, zero, suc, ◌+◌, ◌-◌, ◌<◌, ◌≤◌, Bool, true, false, List, [], ◌∷◌, ◌++◌, length, map, drop, get_or, refl, sym, ◌∙◌, ap, append_assoc, length-append, arith}
-use Rattle.std.proofs.lemmas.List.{append-nil, get_or_push}
+use Rattle.std.proofs.Common.{◌≡◌, ℕ, zero, suc, ◌+◌, ◌-◌, ◌<◌, ◌≤◌, Bool, List, [], ◌∷◌, ◌++◌, length, map, drop, get_or, refl, sym, ◌∙◌, ap, append_assoc, length-append, arith}
+use Rattle.std.proofs.lemmas.List.{get_or_push}
 use Rattle.bit_gates.specs.declared.lit.Gate.{Gate}
 use Rattle.bit_gates.specs.declared.lit.Lit.{Lit}
 use Rattle.bit_gates.specs.Formulas.{Extends, value_of}
 use Rattle.bit_gates.proofs.Arenas.{value_kept}
 use Rattle.bit_ints.specs.Integers.{AreBelow, values, with_sign_again, extended_by}
-
--- an arena is what it was
-pub grown_same : (gates : List Gate) → Extends gates gates
-grown_same gates = record { more = []; is = sym (append-nil gates) }
 
 -- an arena grows in two steps
 pub grown_more : (old mid new : List Gate) → Extends old mid → Extends mid new → Extends old new

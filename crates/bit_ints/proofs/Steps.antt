@@ -1,11 +1,11 @@
 -- One step of each loop over digits.
-use Rattle.std.proofs.Common.{◌≡◌, ℕ, zero, suc, ◌+◌, ◌-◌, ◌<◌, ◌≤◌, ◌&&◌, Bool, true, false, not, List, [], ◌∷◌, ◌++◌, length, map, take, drop, get_or, refl, sym, ◌∙◌, ap, append_assoc, arith}
+use Rattle.std.proofs.Common.{◌≡◌, ℕ, ◌+◌, ◌<◌, ◌≤◌, ◌&&◌, Bool, true, false, not, List, [], ◌∷◌, ◌++◌, length, map, take, drop, get_or, refl, sym, ◌∙◌, append_assoc}
 use Rattle.std.proofs.lemmas.List.{length-map, map-append, get_or-map, drop_more, drop_all, take_more}
 use Rattle.bit_gates.specs.declared.lit.Gate.{Gate}
 use Rattle.bit_gates.specs.declared.lit.Lit.{Lit}
 use Rattle.bit_gates.specs.Formulas.{Extends, value_of}
 use Rattle.bit_gates.proofs.Arenas.{value_kept}
-use Rattle.bit_ints.specs.Integers.{AreBelow, values, zip_with, xor, most, sum_bits, are_same, with_sign_again, extended_by}
+use Rattle.bit_ints.specs.Integers.{AreBelow, values, zip_with, xor, most, sum_bits, are_same}
 use Rattle.bit_ints.proofs.Digits.{below_at, values_kept}
 
 -- a digit of an older arena

@@ -1,7 +1,7 @@
 -- Laws of integers in two's complement, over truth values.
-use Rattle.std.proofs.Common.{◌≡◌, ℕ, zero, suc, ◌+◌, ◌<◌, ◌≤◌, ◌*◌, ◌^◌, Bool, true, false, not, ◌&&◌, ◌||◌, List, [], ◌∷◌, ◌++◌, length, map, ℤ, pos, negsuc, ◌+ℤ◌, ◌*ℤ◌, ◌-ℤ◌, neg_ℤ, if◌then◌else◌, ◌==◌, ◌%◌, ◌/◌, ◌⊎◌, inl, inr, refl, sym, ◌∙◌, ap, arith}
+use Rattle.std.proofs.Common.{◌≡◌, ℕ, zero, suc, ◌<◌, ◌≤◌, Bool, true, false, not, List, [], ◌∷◌, ◌++◌, length, map, ℤ, pos, negsuc, ◌+ℤ◌, ◌*ℤ◌, ◌-ℤ◌, if◌then◌else◌, ◌==◌, ◌%◌, ◌/◌, ◌⊎◌, inl, inr, refl, ◌∙◌, ap, arith}
 use Rattle.std.proofs.lemmas.Int.{ints}
-use Rattle.bit_ints.specs.Integers.{integer, with_sign_again, extended_by, zip_with, xor, most, sum_bits, sign, are_same, is_within}
+use Rattle.bit_ints.specs.Integers.{integer, with_sign_again, extended_by, xor, most, sum_bits}
 
 -- a truth value as 1 or 0
 abbrev pub digit : Bool → ℤ

@@ -1,4 +1,4 @@
-use Rattle.std.proofs.Common.{◌≡◌, ◌&&◌, ◌||◌, Bool, true, false, not, List, refl}
+use Rattle.std.proofs.Common.{◌≡◌, ◌&&◌, ◌||◌, Bool, true, false, not, refl}
 use Rattle.bit_gates.specs.Formulas.{value_of}
 use Rattle.bit_gates.proofs.Arenas.{value_kept}
 use Rattle.bit_ints.specs.Integers.{xor}

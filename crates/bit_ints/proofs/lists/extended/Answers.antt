@@ -1,4 +1,4 @@
-use Rattle.std.proofs.Common.{refl, ◌≡◌, suc, ◌+◌, ◌-◌, [], length, false, arith, ◌∙◌, ap}
+use Rattle.std.proofs.Common.{refl, ◌≡◌, suc, ◌+◌, ◌-◌, length, false, arith}
 use Rattle.bit_ints.proofs.Digits.{extended_push}
 use Rattle.bit_ints.proofs.lists.extended.Goals as goal
 

@@ -1,4 +1,4 @@
-use Rattle.std.proofs.Common.{◌≡◌, ◌-◌, ◌≤◌, length}
+use Rattle.std.proofs.Common.{◌≡◌, ◌-◌, length}
 use Rattle.bit_ints.specs.Integers.{extended_by}
 use Rattle.bit_ints.proofs.lists.extended.Given as goal
 

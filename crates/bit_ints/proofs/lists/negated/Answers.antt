@@ -1,5 +1,4 @@
-use Rattle.std.proofs.Common.{arith, length-append, ◌∷◌, [], false, ap, subst, ◌<◌, length, sym}
-use Rattle.bit_gates.specs.declared.lit.Lit.{Lit}
+use Rattle.std.proofs.Common.{arith, length-append, ◌∷◌, [], false}
 use Rattle.bit_ints.proofs.Digits.{below_at, below_push}
 use Rattle.bit_ints.proofs.Steps.{not_turn}
 use Rattle.bit_ints.proofs.lists.negated.Goals as goal

@@ -1,7 +1,5 @@
-use Rattle.std.proofs.Common.{false, arith, length, ◌<◌, ◌≡◌, ◌&&◌, not, ◌∙◌, get_or}
-use Rattle.bit_gates.specs.Formulas.{value_of}
+use Rattle.std.proofs.Common.{false, arith, length, ◌<◌}
 use Rattle.bit_gates.proofs.Arenas.{value_kept}
-use Rattle.bit_ints.specs.Integers.{xor}
 use Rattle.bit_ints.proofs.Digits.{below_at, grown_length, grown_more}
 use Rattle.bit_ints.proofs.Steps.{same_turn, same_end}
 use Rattle.bit_ints.proofs.lists.same.Goals as goal

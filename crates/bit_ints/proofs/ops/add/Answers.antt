@@ -1,10 +1,7 @@
-use Rattle.std.proofs.Common.{◌≡◌, ◌+◌, ◌-◌, ◌≤◌, ◌<◌, max, length, arith, ap, sym, ◌∙◌, List, Bool, true, false, not, map, refl}
-use Rattle.bit_gates.specs.declared.lit.Lit.{Lit}
-use Rattle.bit_gates.specs.Formulas.{value_of}
-use Rattle.bit_ints.specs.Integers.{AreBelow, integer, values, extended_by, sum_bits, are_same}
-use Rattle.bit_ints.specs.Operations.{meaning}
+use Rattle.std.proofs.Common.{◌≡◌, ◌+◌, ◌-◌, ◌≤◌, max, length, arith, ap, ◌∙◌}
+use Rattle.bit_ints.specs.Integers.{integer, extended_by}
 use Rattle.bit_ints.proofs.Digits.{below_extended}
-use Rattle.bit_ints.proofs.Widths.{length-widened, plain_sum, difference, widened_both}
+use Rattle.bit_ints.proofs.Widths.{length-widened, plain_sum}
 use Rattle.bit_ints.proofs.ops.add.Goals as goal
 
 pub summed-requires-clause-same : goal.summed-requires-clause-same

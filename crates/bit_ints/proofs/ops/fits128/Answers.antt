@@ -1,7 +1,7 @@
-use Rattle.std.proofs.Common.{◌≡◌, ◌-◌, ◌≤◌, ◌^◌, length, take, drop, arith, ap, sym, ◌∙◌, List, Bool}
+use Rattle.std.proofs.Common.{length, arith, ap, ◌∙◌}
 use Rattle.std.proofs.lemmas.List.{length-map, take_rest, drop-map}
 use Rattle.bit_gates.specs.Formulas.{value_of}
-use Rattle.bit_ints.specs.Integers.{AreBelow, values, are_same}
+use Rattle.bit_ints.specs.Integers.{values}
 use Rattle.bit_ints.proofs.Digits.{below_drop}
 use Rattle.bit_ints.proofs.Equals.{fits-is, fits-short}
 use Rattle.bit_ints.proofs.ops.fits128.Goals as goal

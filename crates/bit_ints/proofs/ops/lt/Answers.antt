@@ -1,7 +1,7 @@
-use Rattle.std.proofs.Common.{◌≡◌, ◌-◌, suc, ◌≤◌, length, arith, ap, sym, ◌∙◌, pos, int_lt, List, Bool}
+use Rattle.std.proofs.Common.{◌≡◌, ◌-◌, suc, ◌≤◌, length, arith, ap, ◌∙◌, pos, int_lt}
 use Rattle.std.proofs.lemmas.List.{length-map}
 use Rattle.bit_gates.specs.Formulas.{value_of}
-use Rattle.bit_ints.specs.Integers.{integer, integer_of, values}
+use Rattle.bit_ints.specs.Integers.{integer_of, values}
 use Rattle.bit_ints.proofs.Orders.{sign-lt, lt-sub, sign_at, below_get}
 use Rattle.bit_ints.proofs.ops.lt.Goals as goal
 

@@ -1,12 +1,12 @@
-use Rattle.std.proofs.Common.{◌≡◌, ◌==◌, Bool, List, length, ℕ, zero, suc, ◌+◌, ◌-◌, ◌*◌, ◌<◌, ◌≤◌, ◌/◌, ◌%◌, ◌^◌, true, false, not, [], ◌∷◌, ◌++◌, ℤ, pos, ◌+ℤ◌, ◌*ℤ◌, refl, sym, ◌∙◌, ap, arith, length-append}
+use Rattle.std.proofs.Common.{◌≡◌, ◌==◌, Bool, List, length, ℕ, zero, suc, ◌+◌, ◌-◌, ◌<◌, ◌≤◌, ◌/◌, ◌%◌, ◌^◌, true, false, not, [], ◌∷◌, ◌++◌, ℤ, refl, ◌∙◌, ap, arith, length-append}
 use Rattle.std.specs.Bool.{beq}
-use Rattle.std.proofs.lemmas.Int.{ints, to_z-of_z}
+use Rattle.std.proofs.lemmas.Int.{to_z-of_z}
 use Rattle.std.proofs.lemmas.List.{map-append}
 use Rattle.bit_gates.specs.declared.lit.Gate.{Gate}
 use Rattle.bit_gates.specs.declared.lit.Lit.{Lit}
 use Rattle.bit_gates.specs.Formulas.{value_of}
-use Rattle.bit_ints.specs.Integers.{AreBelow, integer, integer_of, values, xor}
-use Rattle.bit_ints.proofs.Sums.{onto, onto-push, integer-onto, signed, digit, halves}
+use Rattle.bit_ints.specs.Integers.{integer_of, values, xor}
+use Rattle.bit_ints.proofs.Sums.{onto, onto-push, integer-onto, signed, halves}
 use Rattle.bit_ints.proofs.Digits.{below_push}
 use Rattle.bit_ints.proofs.int.BitInt.from_const.Goals as goal
 

@@ -1,4 +1,4 @@
-use Rattle.std.proofs.Common.{◌≡◌, Bool, List, length, ℕ, ◌-◌, ◌<◌, ◌≤◌, ◌^◌}
+use Rattle.std.proofs.Common.{◌≡◌, Bool, List, length, ◌-◌, ◌<◌, ◌≤◌, ◌^◌}
 use Rattle.bit_ints.specs.Integers.{AreBelow, values}
 use Rattle.bit_ints.proofs.Sums.{onto, signed}
 use Rattle.bit_ints.proofs.int.BitInt.from_const.Given as goal
