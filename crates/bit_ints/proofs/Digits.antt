@@ -72,6 +72,7 @@ below_again n [] b = tt
 below_again n (x ∷ []) b = (b.0, (b.0, tt))
 below_again n (x ∷ y ∷ lits) b = (b.0, below_again n (y ∷ lits) b.1)
 
+-- the same for their sign n times more
 pub below_extended : (n k : ℕ) (lits : List Lit) → AreBelow n lits → AreBelow n (extended_by k lits)
 below_extended n zero lits b = b
 below_extended n (suc k) lits b = below_again n (extended_by k lits) (below_extended n k lits b)

@@ -24,10 +24,12 @@ record Within (m : ℕ) (z : ℤ) : Type 0 where
   low : neg_ℤ (pos m) ≤ℤ z
   high : z <ℤ pos m
 
+-- the test implies the bounds
 within_from : (m : ℕ) (z : ℤ) → is_within m z ≡ true → Within m z
 within_from m (pos n) e = let h = ltb-true n m e in record { low = omega (arith, ints); high = omega (arith, ints) }
 within_from m (negsuc n) e = let h = ltb-true n m e in record { low = omega (arith, ints); high = omega (arith, ints) }
 
+-- the bounds imply the test
 within_to : (m : ℕ) (z : ℤ) → Within m z → is_within m z ≡ true
 within_to m (pos n) w = lt-ltb n m (omega (arith, ints, w.high))
 within_to m (negsuc n) w = lt-ltb n m (omega (arith, ints, w.low))
@@ -83,6 +85,7 @@ record Halved (b : Bool) (z : ℤ) : Type 0 where
   half : ℤ
   is : z ≡ digit b +ℤ pos 2 *ℤ half
 
+-- each integer has the parity of its lowest digit
 halved : (b : Bool) (bs : List Bool) → Halved b (integer (b ∷ bs))
 halved true [] = record { half = negsuc 0; is = refl }
 halved false [] = record { half = pos 0; is = refl }
@@ -101,6 +104,7 @@ flat_step true false z w = same_tests _ _ (λ p. absurd (true≢false (sym p)))
 flat_step false true z w = same_tests _ _ (λ p. absurd (true≢false (sym p)))
     (λ p. let r = within_from 1 (digit false +ℤ pos 2 *ℤ z) p in let e = w.is in absurd (omega (arith, ints, r.low, r.high)))
 
+-- a power of 2 is not 0
 power_positive : (k : ℕ) → 0 < 2 ^ k
 power_positive zero = omega arith
 power_positive (suc k) = omega (arith, power_positive k)

@@ -7,6 +7,7 @@ use Rattle.bit_gates.specs.Formulas.{value_of}
 use Rattle.bit_ints.specs.Integers.{integer, values, AreBelow, sign}
 use Rattle.bit_ints.proofs.Sums.{digit}
 
+-- a digit in front keeps the sign
 sign_step : (b : Bool) (z : ℤ) → int_lt z (pos 0) ≡ int_lt (digit b +ℤ pos 2 *ℤ z) (pos 0)
 sign_step true (pos n) = grind (arith, ints)
 sign_step true (negsuc n) = grind (arith, ints)

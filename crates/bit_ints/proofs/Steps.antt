@@ -38,6 +38,7 @@ sum_turn g0 g1 g2 bits xs ys digits more i d e c r next z e0 e1 bx by bd hx hy i
     let before : values g1 bits digits ++ xor (xor (get_or (values g0 bits xs) i false) (get_or (values g0 bits ys) i false)) (value_of g1 bits c) ∷ sum_bits (most (get_or (values g0 bits xs) i false) (get_or (values g0 bits ys) i false) (value_of g1 bits c)) (drop (i + 1) (values g0 bits xs)) (drop (i + 1) (values g0 bits ys)) ≡ z = rw (left_more g0 bits xs i hx, left_more g0 bits ys i hy) at inv in
     rw (values_push g1 g2 bits digits more r e1 bd is, v, w, x, y, append_assoc) before
 
+-- a conjunction of three
 and_assoc : (a b c : Bool) → ((a && b) && c) ≡ (a && (b && c))
 and_assoc true b c = refl
 and_assoc false b c = refl
@@ -50,10 +51,12 @@ same_turn g0 g1 bits xs ys i d e all next z e0 bx by hx hy v inv =
     let before : (all && (not (xor (get_or (values g0 bits xs) i false) (get_or (values g0 bits ys) i false)) && are_same (drop (i + 1) (values g0 bits xs)) (drop (i + 1) (values g0 bits ys)))) ≡ z = rw (left_more g0 bits xs i hx, left_more g0 bits ys i hy) at inv in
     rw (v, x, y) (and_assoc all (not (xor (get_or (values g0 bits xs) i false) (get_or (values g0 bits ys) i false))) (are_same (drop (i + 1) (values g0 bits xs)) (drop (i + 1) (values g0 bits ys))) ∙ before)
 
+-- a conjunction with true
 and_true : (a : Bool) → (a && true) ≡ a
 and_true true = refl
 and_true false = refl
 
+-- no digits are the same as any
 same_short : (xs : List Bool) → are_same xs [] ≡ true
 same_short [] = refl
 same_short (x ∷ xs) = refl

@@ -82,19 +82,23 @@ onto-push (b ∷ bs) d z = ap (λ z. digit b +ℤ pos 2 *ℤ z) (onto-push bs d 
 abbrev pub signed : Bool → ℕ → ℤ
 signed negative n = if negative then negsuc n else pos n
 
+-- a number below 2
 cases_two : (m : ℕ) → m < 2 → (m ≡ 0) ⊎ (m ≡ 1)
 cases_two zero h = inl refl
 cases_two (suc zero) h = inr refl
 cases_two (suc (suc m)) h = absurd (omega arith)
 
+-- the step for an even number
 even : (negative : Bool) (n : ℕ) → n % 2 ≡ 0 → digit (xor (n % 2 == 1) negative) +ℤ pos 2 *ℤ signed negative (n / 2) ≡ signed negative n
 even true n e = rw e (omega (arith, ints))
 even false n e = rw e (omega (arith, ints))
 
+-- the step for an odd number
 odd : (negative : Bool) (n : ℕ) → n % 2 ≡ 1 → digit (xor (n % 2 == 1) negative) +ℤ pos 2 *ℤ signed negative (n / 2) ≡ signed negative n
 odd true n e = rw e (omega (arith, ints))
 odd false n e = rw e (omega (arith, ints))
 
+-- a number is even or odd
 two_ways : (n : ℕ) → (n % 2 ≡ 0) ⊎ (n % 2 ≡ 1)
 two_ways n = cases_two (n % 2) (omega arith)
 

@@ -44,6 +44,7 @@ zip_with f (x ∷ xs) (y ∷ ys) = f x y ∷ zip_with f xs ys
 abbrev pub bitwise : (Bool → Bool → Bool) → List Bool → List Bool → List Bool
 bitwise f xs ys = zip_with f (extended_by (length ys - length xs) xs) (extended_by (length xs - length ys) ys)
 
+-- whether exactly one is true
 abbrev pub xor : Bool → Bool → Bool
 xor true b = not b
 xor false b = b
