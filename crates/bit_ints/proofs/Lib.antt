@@ -4,3 +4,4 @@ pub mod Steps
 pub mod Orders
 pub mod Widths
 pub mod Equals
+pub mod Rows

@@ -9,9 +9,11 @@ mod digit;
 mod int;
 mod lists;
 mod ops;
+mod products;
 #[cfg(test)]
 mod tests;
 
 pub use bit_gates::{Bits, Gates, Lit};
 pub use int::BitInt;
 pub use ops::{add, bit_and, bit_or, bit_xor, eq, fits128, lt, sub};
+pub use products::mul;

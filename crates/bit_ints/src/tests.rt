@@ -1,7 +1,7 @@
 ghost use Rattle.std.specs.Prelude.{◌≡◌, ◌<◌, length};
 ghost use Rattle.bit_ints.specs.Integers.{AreBelow};
 
-use crate::{BitInt, Bits, Gates, Lit, add, bit_and, bit_or, bit_xor, eq, fits128, lt, sub};
+use crate::{BitInt, Bits, Gates, Lit, add, bit_and, bit_or, bit_xor, eq, fits128, lt, mul, sub};
 use std::alloc::Global;
 use std::test::Fail;
 use xh_outside::NoMemory;
@@ -10,6 +10,7 @@ use xh_outside::NoMemory;
 enum Binary {
     Add,
     Sub,
+    Mul,
     And,
     Or,
     Xor,
@@ -43,6 +44,7 @@ fn call(alloc: Global, call: Binary, x: i128, y: i128) -> Result<i128, NoMemory>
     let n = match call {
         Binary::Add => add(alloc, &mut g, &a, &b)?,
         Binary::Sub => sub(alloc, &mut g, &a, &b)?,
+        Binary::Mul => mul(alloc, &mut g, &a, &b)?,
         Binary::And => bit_and(alloc, &mut g, &a, &b)?,
         Binary::Or => bit_or(alloc, &mut g, &a, &b)?,
         Binary::Xor => bit_xor(alloc, &mut g, &a, &b)?,
@@ -103,7 +105,7 @@ fn constants_take_few_digits(rt: HostRuntime) -> Result<(), Fail> {
 }
 
 #[test]
-fn sums_and_differences_have_signs(rt: HostRuntime) -> Result<(), Fail> {
+fn sums_differences_and_products_have_signs(rt: HostRuntime) -> Result<(), Fail> {
     let alloc = rt.alloc();
     for (f, x, y, value) in [
         (Binary::Add, 3i128, 4i128, 7i128),
@@ -115,6 +117,11 @@ fn sums_and_differences_have_signs(rt: HostRuntime) -> Result<(), Fail> {
         (Binary::Sub, 3, -4, 7),
         (Binary::Sub, -3, -4, 1),
         (Binary::Sub, 0, i128::MAX, -i128::MAX),
+        (Binary::Mul, -128, -128, 16384),
+        (Binary::Mul, -7, 3, -21),
+        (Binary::Mul, 0, -5, 0),
+        (Binary::Mul, 127, -128, -16256),
+        (Binary::Mul, 6, -1, -6),
         (Binary::And, -6, 12, 8),
         (Binary::Or, -6, 3, -5),
         (Binary::Xor, -1, 5, -6),
