@@ -5,3 +5,4 @@ pub mod Orders
 pub mod Widths
 pub mod Equals
 pub mod Rows
+pub mod Halves

@@ -131,7 +131,7 @@ got gates bits (x ∷ lits) zero a e = let same : x ≡ a = cc in rw same refl
 got gates bits (x ∷ lits) (suc i) a e = got gates bits lits i a e
 
 -- the same as the arena grows
-got_later : (old new : List Gate) (bits : List Bool) (lits : List Lit) (i : ℕ) (a : Lit) → Extends old new → AreBelow (length old) lits → slice_get lits i ≡ Some a → value_of new bits a ≡ get_or (values old bits lits) i false
+pub got_later : (old new : List Gate) (bits : List Bool) (lits : List Lit) (i : ℕ) (a : Lit) → Extends old new → AreBelow (length old) lits → slice_get lits i ≡ Some a → value_of new bits a ≡ get_or (values old bits lits) i false
 got_later old new bits lits i a e b is = value_kept old new bits a e (below_get (length old) lits i a b is) ∙ got old bits lits i a is
 
 -- a masked integer of an older arena

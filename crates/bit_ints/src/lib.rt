@@ -10,6 +10,7 @@ mod int;
 mod lists;
 mod ops;
 mod products;
+mod shifts;
 #[cfg(test)]
 mod tests;
 
@@ -17,3 +18,4 @@ pub use bit_gates::{Bits, Gates, Lit};
 pub use int::BitInt;
 pub use ops::{add, bit_and, bit_or, bit_xor, eq, fits128, lt, sub};
 pub use products::mul;
+pub use shifts::shr;

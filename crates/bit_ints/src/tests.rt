@@ -1,7 +1,9 @@
 ghost use Rattle.std.specs.Prelude.{◌≡◌, ◌<◌, length};
 ghost use Rattle.bit_ints.specs.Integers.{AreBelow};
 
-use crate::{BitInt, Bits, Gates, Lit, add, bit_and, bit_or, bit_xor, eq, fits128, lt, mul, sub};
+use crate::{
+    BitInt, Bits, Gates, Lit, add, bit_and, bit_or, bit_xor, eq, fits128, lt, mul, shr, sub,
+};
 use std::alloc::Global;
 use std::test::Fail;
 use xh_outside::NoMemory;
@@ -14,6 +16,7 @@ enum Binary {
     And,
     Or,
     Xor,
+    Shr,
 }
 
 /// The integer of digits that depend on no input.
@@ -48,6 +51,7 @@ fn call(alloc: Global, call: Binary, x: i128, y: i128) -> Result<i128, NoMemory>
         Binary::And => bit_and(alloc, &mut g, &a, &b)?,
         Binary::Or => bit_or(alloc, &mut g, &a, &b)?,
         Binary::Xor => bit_xor(alloc, &mut g, &a, &b)?,
+        Binary::Shr => shr(alloc, &mut g, &a, &b)?,
     };
     read(alloc, &g, &n)
 }
@@ -105,7 +109,7 @@ fn constants_take_few_digits(rt: HostRuntime) -> Result<(), Fail> {
 }
 
 #[test]
-fn sums_differences_and_products_have_signs(rt: HostRuntime) -> Result<(), Fail> {
+fn operations_have_signs(rt: HostRuntime) -> Result<(), Fail> {
     let alloc = rt.alloc();
     for (f, x, y, value) in [
         (Binary::Add, 3i128, 4i128, 7i128),
@@ -125,6 +129,9 @@ fn sums_differences_and_products_have_signs(rt: HostRuntime) -> Result<(), Fail>
         (Binary::And, -6, 12, 8),
         (Binary::Or, -6, 3, -5),
         (Binary::Xor, -1, 5, -6),
+        (Binary::Shr, -5, 1, -3),
+        (Binary::Shr, 5, 200, 0),
+        (Binary::Shr, -1, 7, -1),
     ] {
         assert_eq!(rt; call(alloc, f, x, y)?, value);
     }
