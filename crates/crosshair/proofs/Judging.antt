@@ -47,12 +47,6 @@ body_is form z bounds outcome left some deep runs =
     entered true e = refl
     entered false e = cc
 
--- a post line is the run of its expression
-pub line_is : (form : Form) (z : ℤ) (bounds : Bounds) (v : Value) (e : Expr) (outcome : Outcome) (left : ℕ)
-    → RunsTo (eval e) ((form.head.parameter, Int z) ∷ (returned_name, v) ∷ []) bounds.max_steps outcome left → outcome ≡ line_outcome (function_of form) (call_with z) bounds [] v e
-line_is form z bounds v e outcome left runs =
-    sym (ap (λ r. r.outcome) (runs (fresh [] ((form.head.parameter, Int z) ∷ (returned_name, v) ∷ []) bounds.max_steps) refl refl))
-
 -- with no precondition, a call is judged by its body
 pub judged_is : (form : Form) (z : ℤ) (bounds : Bounds) (outcome : Outcome) → EndsBody form z bounds outcome
     → judged (function_of form) (call_with z) bounds ≡ on_body (body_of (function_of form) (Int z ∷ []) bounds) (Int z ∷ []) outcome

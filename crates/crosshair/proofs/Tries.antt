@@ -12,16 +12,13 @@ use Rattle.spec_verdicts.specs.Breaking.{Fault, broken, limited, is_unmet}
 use Rattle.spec_verdicts.specs.Verdicts.{Error, first_of, with_call, concluded, undecided, verdict_over}
 use Rattle.crosshair.specs.declared.calls.Call as declared
 use Rattle.crosshair.specs.Meaning.{call_with}
-use Rattle.crosshair.specs.Judges.{calls_in, earlier, limit_at, kept}
+use Rattle.crosshair.specs.Judges.{calls_in, earlier, kept}
 
 -- what is known of all calls zs, when ws are still to be tried
 pub record Tried (f : Function) (k : Condition) (b : Bounds) (zs ws : List declared.Call) (limit : Option (declared.Call × LimitKind)) (unmet : Bool) : Type 0 where
   pub broken : first_of (broken f k b) (calls_in zs) ≡ first_of (broken f k b) (calls_in ws)
   pub limited : first_of (limited f k b) (calls_in zs) ≡ earlier (kept limit) (first_of (limited f k b) (calls_in ws))
   pub unmet_so_far : list_all (is_unmet f b) (calls_in zs) ≡ (unmet && list_all (is_unmet f b) (calls_in ws))
-
-pub tried_none : (f : Function) (k : Condition) (b : Bounds) (zs : List declared.Call) → Tried f k b zs zs None true
-tried_none f k b zs = record { broken = refl; limited = refl; unmet_so_far = refl }
 
 -- a call that breaks the condition, and none before it does
 pub tried_broken : (f : Function) (k : Condition) (b : Bounds) (zs ws : List declared.Call) (z : declared.Call) (limit : Option (declared.Call × LimitKind)) (unmet : Bool) (fault : Fault)
@@ -30,25 +27,6 @@ unfolding verdict_over
 tried_broken f k b zs ws z limit unmet fault t is =
     let found : first_of (broken f k b) (calls_in zs) ≡ Some (call_with z.argument, fault) = t.broken ∙ ap (λ o. with_call (call_with z.argument) o (first_of (broken f k b) (calls_in ws))) is in
     ap (λ o. concluded o (first_of (limited f k b) (calls_in zs)) (list_all (is_unmet f b) (calls_in zs))) found
-
--- a call that is not broken, with what it is limited by
-pub tried_more : (f : Function) (k : Condition) (b : Bounds) (zs ws : List declared.Call) (z : declared.Call) (limit : Option (declared.Call × LimitKind)) (unmet : Bool) (kind : Option LimitKind)
-    → Tried f k b zs (z ∷ ws) limit unmet → broken f k b (call_with z.argument) ≡ None → limited f k b (call_with z.argument) ≡ kind → is_unmet f b (call_with z.argument) ≡ false
-    → Tried f k b zs ws (earlier limit (limit_at z kind)) false
-tried_more f k b zs ws z limit unmet kind t unbroken limits met = record {
-  broken = t.broken ∙ ap (λ o. with_call (call_with z.argument) o (first_of (broken f k b) (calls_in ws))) unbroken;
-  limited = t.limited ∙ ap (λ o. earlier (kept limit) (with_call (call_with z.argument) o (first_of (limited f k b) (calls_in ws)))) limits ∙ later limit kind;
-  unmet_so_far = t.unmet_so_far ∙ ap (λ u. unmet && (u && list_all (is_unmet f b) (calls_in ws))) met ∙ nothing unmet;
-}
-  where
-    later : (limit : Option (declared.Call × LimitKind)) (kind : Option LimitKind) → earlier (kept limit) (with_call (call_with z.argument) kind (first_of (limited f k b) (calls_in ws))) ≡ earlier (kept (earlier limit (limit_at z kind))) (first_of (limited f k b) (calls_in ws))
-    later (Some x) kind = refl
-    later None (Some y) = refl
-    later None None = refl
-
-    nothing : (u : Bool) → (u && false) ≡ false
-    nothing true = refl
-    nothing false = refl
 
 -- all calls were tried, and none breaks the condition
 pub tried_all : (f : Function) (k : Condition) (b : Bounds) (zs : List declared.Call) (limit : Option (declared.Call × LimitKind)) (unmet : Bool) → Tried f k b zs [] limit unmet → verdict_over f k b (calls_in zs) ≡ undecided (kept limit) unmet

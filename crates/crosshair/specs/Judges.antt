@@ -51,10 +51,6 @@ abbrev pub earlier : {X : Type 0} → Option X → Option X → Option X
 earlier (Some x) o = Some x
 earlier None o = o
 
-abbrev pub limit_at : declared.Call → Option LimitKind → Option (declared.Call × LimitKind)
-limit_at c None = None
-limit_at c (Some kind) = Some (c, kind)
-
 -- a kept call with its limit
 abbrev pub kept : Option (declared.Call × LimitKind) → Option (Call × LimitKind)
 kept None = None
