@@ -4,7 +4,7 @@ use Rattle.std.proofs.lemmas.Option.{slice_get-get_or}
 use Rattle.std.specs.Prelude.{◌&&◌, Option, Some, None, codes, slice_get, if◌then◌else◌}
 use Rattle.std.specs.Option.{IsSome, option_copied}
 use Rattle.std.specs.Str.{bytes_eq}
-use Rattle.spec_trees.specs.Bounds.{Bounds, standard}
+use Rattle.spec_first_trees.specs.Bounds.{Bounds, standard}
 use Rattle.spec_verdicts.specs.Settings.{settings, is_target}
 
 -- there is a word at each place below the length

@@ -1,11 +1,11 @@
 -- How runs of expressions are put together.
 use Rattle.std.proofs.Common.{◌≡◌, ◌<◌, ℕ, ◌-◌, ◌==◌, List, pos, Bool, true, false, refl, sym, ap, ◌∙◌, subst, arith}
 use Rattle.std.specs.Prelude.{if◌then◌else◌}
-use Rattle.spec_trees.specs.declared.LimitKind.TheVariants as limit
-use Rattle.spec_trees.specs.Expr.{Expr}
-use Rattle.spec_trees.specs.Expr as tree
-use Rattle.spec_trees.specs.declared.BinaryOp.{BinaryOp}
-use Rattle.spec_trees.specs.declared.CompareOp.{CompareOp}
+use Rattle.spec_first_trees.specs.declared.LimitKind.TheVariants as limit
+use Rattle.spec_first_trees.specs.Expr.{Expr}
+use Rattle.spec_first_trees.specs.Expr as tree
+use Rattle.spec_first_trees.specs.declared.BinaryOp.{BinaryOp}
+use Rattle.spec_first_trees.specs.declared.CompareOp.{CompareOp}
 use Rattle.spec_running.specs.declared.Value.TheVariants.{Int}
 use Rattle.spec_running.specs.declared.Outcome.{Outcome}
 use Rattle.spec_running.specs.declared.Outcome.TheVariants.{Returned, Limit}

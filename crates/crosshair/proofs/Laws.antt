@@ -10,7 +10,7 @@ use Rattle.xh_outside.specs.Writing.{Went, AppendsPart}
 use Rattle.xh_outside.proofs.Sinks.{append_known-append, went_on, went_part, went_done, part_none, rose_since}
 use Rattle.xh_outside.specs.declared.errors.ReadError.{ReadError}
 use Rattle.xh_outside.specs.declared.errors.ReadError.TheVariants as read_error
-use Rattle.spec_trees.specs.Bounds.{Bounds}
+use Rattle.spec_first_trees.specs.Bounds.{Bounds}
 use Rattle.spec_verdicts.specs.declared.TheConstants.{READ_LIMIT}
 use Rattle.spec_verdicts.specs.Report.{Total, nothing, join, entry_of, is_failed, after, targets_total}
 use Rattle.crosshair.specs.Ends.{Ends, IsDone, IsCutShort, IsReadFault, TellsRead}

@@ -3,6 +3,7 @@ pub mod Evaluation
 pub mod ExitRows
 pub mod Judging
 pub mod Laws
+pub mod Listings
 pub mod Programs
 pub mod Texts
 pub mod Tries

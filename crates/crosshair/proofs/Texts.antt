@@ -1,5 +1,5 @@
 -- Laws of the texts of a report.
-use Rattle.std.proofs.Common.{◌≡◌, ℕ, ◌+◌, ℤ, Bool, ◌||◌, List, [], ◌∷◌, ◌++◌, take, map, append_assoc, ap, sym, ◌∙◌, arith}
+use Rattle.std.proofs.Common.{◌≡◌, ℕ, ◌+◌, Bool, ◌||◌, List, [], ◌∷◌, ◌++◌, take, map, append_assoc, ap, sym, ◌∙◌, arith}
 use Rattle.std.proofs.Math.Bool.{or-false}
 use Rattle.std.proofs.lemmas.Grind.{common_steps, flat_map-append}
 use Rattle.std.proofs.lemmas.List.{append-nil, take_more}
@@ -8,32 +8,28 @@ use Rattle.std.proofs.lemmas.Option.{gets, slice_get-map}
 use Rattle.std.specs.Prelude.{codes, slice_get, Some}
 use Rattle.std.specs.Option.{option_map}
 use Rattle.std.specs.List.{flat_map, list_any}
-use Rattle.std.specs.Fmt.{decimal, signed_decimal}
-use Rattle.spec_trees.specs.Bounds.{Bounds}
-use Rattle.spec_trees.specs.Program.{Function}
+use Rattle.std.specs.Fmt.{decimal}
+use Rattle.spec_first_trees.specs.Bounds.{Bounds}
+use Rattle.spec_first_trees.specs.Program.{Function}
 use Rattle.spec_calls.specs.Calls.{Call}
-use Rattle.spec_calls.specs.Printing.{printed}
+use Rattle.spec_calls.specs.Printing.{arguments_text, printed}
 use Rattle.spec_verdicts.specs.Breaking.{Fault}
 use Rattle.spec_verdicts.specs.Lines.{error_line, fault_text}
 use Rattle.spec_verdicts.specs.Report.{function_text, has_error}
-use Rattle.py_tree.specs.declared.nodes.ExprNode.{ExprNode}
-use Rattle.py_tree.specs.declared.nodes.FnNode.{FnNode}
+use Rattle.first_tree.specs.declared.nodes.ExprNode.{ExprNode}
+use Rattle.first_tree.specs.declared.nodes.FnNode.{FnNode}
 use Rattle.crosshair.specs.declared.verdicts.Condition.TheVariants.{Raises, Post}
-use Rattle.crosshair.specs.Meaning.{call_with, function_in, condition_in}
+use Rattle.crosshair.specs.Meaning.{function_in, condition_in, parameters_in}
 use Rattle.crosshair.specs.Texts.{condition_text, condition_fails}
-
--- the text of a call with one argument
-pub call_text : (nodes : List ExprNode) (f : FnNode) (z : ℤ) → printed (function_in nodes f) (call_with z) ≡ f.name ++ (codes "(" ++ (f.parameter ++ (codes " = " ++ (signed_decimal z ++ codes ")"))))
-unfolding printed
-call_text nodes f z = simp append_assoc
 
 -- three pieces are appended one after the other
 pub three_added : (t t1 t2 t3 a b d : List ℕ) → t1 ≡ t ++ a → t2 ≡ t1 ++ b → t3 ≡ t2 ++ d → t3 ≡ t ++ ((a ++ b) ++ d)
 three_added t t1 t2 t3 a b d e1 e2 e3 = simp (e3, e2, e1, append_assoc)
 
 -- a call is appended in four pieces
-pub call_added : (nodes : List ExprNode) (f : FnNode) (z : ℤ) (t t1 t2 t3 t4 name parameter rest : List ℕ) → t1 ≡ t ++ name → name ≡ f.name → t2 ≡ t1 ++ codes "(" → t3 ≡ t2 ++ parameter → parameter ≡ f.parameter → t4 ≡ t3 ++ rest → rest ≡ codes " = " ++ (signed_decimal z ++ codes ")") → t4 ≡ t ++ printed (function_in nodes f) (call_with z)
-call_added nodes f z t t1 t2 t3 t4 name parameter rest e1 n e2 e3 p e4 r = simp (e4, e3, e2, e1, n, p, r, call_text, append_assoc)
+pub call_added : (nodes : List ExprNode) (f : FnNode) (c : Call) (t t1 t2 t3 t4 name : List ℕ) → t1 ≡ t ++ name → name ≡ f.name → t2 ≡ t1 ++ codes "(" → t3 ≡ t2 ++ arguments_text (parameters_in f.parameters) c → t4 ≡ t3 ++ codes ")" → t4 ≡ t ++ printed (function_in nodes f) c
+unfolding printed
+call_added nodes f c t t1 t2 t3 t4 name e1 n e2 e3 e4 = simp (e4, e3, e2, e1, n, append_assoc)
 
 -- the line of an error in three pieces
 pub error_added : (name : List ℕ) (line : ℕ) (f : Function) (c : Call) (fault : Fault) (head t1 t2 t3 : List ℕ) → t1 ≡ head → head ≡ name ++ (codes ":" ++ (decimal line ++ codes ": error: ")) → t2 ≡ t1 ++ fault_text f c fault → t3 ≡ t2 ++ codes "\n" → t3 ≡ error_line name line f c fault

@@ -1,18 +1,18 @@
 -- The verdict over a list of calls, call by call.
-use Rattle.std.proofs.Common.{◌≡◌, ℕ, Bool, true, false, List, [], ◌∷◌, ℤ, pos, negsuc, Option, Some, None, map, refl, sym, ap, ◌∙◌}
+use Rattle.std.proofs.Common.{◌≡◌, Bool, true, false, List, [], ◌∷◌, Option, Some, None, refl, sym, ap, ◌∙◌}
 use Rattle.std.specs.Prelude.{◌&&◌}
-use Rattle.std.specs.List.{list_all, flat_map}
-use Rattle.spec_trees.specs.declared.LimitKind.{LimitKind}
-use Rattle.spec_trees.specs.Bounds.{Bounds}
-use Rattle.spec_trees.specs.Program.{Function, Condition}
-use Rattle.spec_calls.specs.Calls.{Call, Number, integers, calls}
-use Rattle.spec_contracts.specs.Forms.{Form}
-use Rattle.spec_contracts.specs.Admission.{function_of}
+use Rattle.std.specs.List.{list_all}
+use Rattle.spec_first_trees.specs.declared.LimitKind.{LimitKind}
+use Rattle.spec_first_trees.specs.Bounds.{Bounds}
+use Rattle.spec_first_trees.specs.Program.{Function, Condition}
+use Rattle.spec_calls.specs.Calls.{Call, calls, choices}
 use Rattle.spec_verdicts.specs.Breaking.{Fault, broken, limited, is_unmet}
 use Rattle.spec_verdicts.specs.Verdicts.{Error, first_of, with_call, concluded, undecided, verdict_over}
+use Rattle.first_tree.specs.declared.nodes.ExprNode.{ExprNode}
+use Rattle.first_tree.specs.declared.nodes.FnNode.{FnNode}
 use Rattle.crosshair.specs.declared.calls.Call as declared
-use Rattle.crosshair.specs.Meaning.{call_with}
-use Rattle.crosshair.specs.Judges.{calls_in, earlier, kept}
+use Rattle.crosshair.specs.Meaning.{call_in, calls_in, function_in, parameters_in}
+use Rattle.crosshair.specs.Judges.{earlier, kept}
 
 -- what is known of all calls zs, when ws are still to be tried
 pub record Tried (f : Function) (k : Condition) (b : Bounds) (zs ws : List declared.Call) (limit : Option (declared.Call × LimitKind)) (unmet : Bool) : Type 0 where
@@ -22,10 +22,10 @@ pub record Tried (f : Function) (k : Condition) (b : Bounds) (zs ws : List decla
 
 -- a call that breaks the condition, and none before it does
 pub tried_broken : (f : Function) (k : Condition) (b : Bounds) (zs ws : List declared.Call) (z : declared.Call) (limit : Option (declared.Call × LimitKind)) (unmet : Bool) (fault : Fault)
-    → Tried f k b zs (z ∷ ws) limit unmet → broken f k b (call_with z.argument) ≡ Some fault → verdict_over f k b (calls_in zs) ≡ Error (call_with z.argument) fault
+    → Tried f k b zs (z ∷ ws) limit unmet → broken f k b (call_in z) ≡ Some fault → verdict_over f k b (calls_in zs) ≡ Error (call_in z) fault
 unfolding verdict_over
 tried_broken f k b zs ws z limit unmet fault t is =
-    let found : first_of (broken f k b) (calls_in zs) ≡ Some (call_with z.argument, fault) = t.broken ∙ ap (λ o. with_call (call_with z.argument) o (first_of (broken f k b) (calls_in ws))) is in
+    let found : first_of (broken f k b) (calls_in zs) ≡ Some (call_in z, fault) = t.broken ∙ ap (λ o. with_call (call_in z) o (first_of (broken f k b) (calls_in ws))) is in
     ap (λ o. concluded o (first_of (limited f k b) (calls_in zs)) (list_all (is_unmet f b) (calls_in zs))) found
 
 -- all calls were tried, and none breaks the condition
@@ -44,19 +44,7 @@ tried_all f k b zs limit unmet t =
     same true = refl
     same false = refl
 
-abbrev pub call_of : ℤ → declared.Call
-call_of z = record { argument = z }
-
--- the calls of a form are those with each integer
-pub calls_are : (form : Form) (b : Bounds) (cs : List declared.Call) → cs ≡ map call_of (integers b.int_bits) → calls (function_of form) b ≡ calls_in cs
+-- what is listed are the calls of the function
+pub calls_are : (nodes : List ExprNode) (f : FnNode) (b : Bounds) (cs : List declared.Call) → calls_in cs ≡ choices (parameters_in f.parameters) b → calls (function_in nodes f) b ≡ calls_in cs
 unfolding calls
-calls_are form b cs is = each (integers b.int_bits) ∙ ap calls_in (sym is)
-  where
-    each : (zs : List ℤ) → flat_map (λ a. map (λ rest. a ∷ rest) ([] ∷ [])) (map (λ z. Number z) zs) ≡ calls_in (map call_of zs)
-    each [] = refl
-    each (z ∷ zs) = ap (λ cs. call_with z ∷ cs) (each zs)
-
--- the calls of each pair of integers, one after the other
-pub listed : (ms : List ℕ) → flat_map (λ m. call_of (pos m) ∷ call_of (negsuc m) ∷ []) ms ≡ map call_of (flat_map (λ m. pos m ∷ negsuc m ∷ []) ms)
-listed [] = refl
-listed (m ∷ ms) = ap (λ cs. call_of (pos m) ∷ call_of (negsuc m) ∷ cs) (listed ms)
+calls_are nodes f b cs is = sym is

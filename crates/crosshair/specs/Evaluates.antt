@@ -1,7 +1,7 @@
 -- What the evaluator answers.
 use Rattle.std.specs.Prelude.{◌≡◌, ℕ, ◌-◌, ◌==◌, List, map, Result, Ok, Err, if◌then◌else◌}
-use Rattle.spec_trees.specs.declared.LimitKind.TheVariants as limit
-use Rattle.spec_trees.specs.Expr.{Expr}
+use Rattle.spec_first_trees.specs.declared.LimitKind.TheVariants as limit
+use Rattle.spec_first_trees.specs.Expr.{Expr}
 use Rattle.spec_running.specs.declared.Value.{Value}
 use Rattle.spec_running.specs.declared.Outcome.{Outcome}
 use Rattle.spec_running.specs.declared.Outcome.TheVariants.{Limit}
@@ -11,9 +11,12 @@ use Rattle.crosshair.specs.declared.evaluator.Local.{Local}
 use Rattle.crosshair.specs.declared.evaluator.Evaluated.{Evaluated}
 use Rattle.crosshair.specs.declared.evaluator.Operands.{Operands}
 
--- names with their values
+-- a name with its value
+abbrev pub local_in : Local → List ℕ × Value
+local_in l = (l.name.now, l.value)
+
 abbrev pub locals_of : List Local → Locals
-locals_of locals = map (λ l. (l.name.now, l.value)) locals
+locals_of locals = map local_in locals
 
 -- From every state with these locals and steps, a run ends with this outcome and leaves so many steps, and nothing else changes.
 abbrev pub RunsTo : (State → Ran) → Locals → ℕ → Outcome → ℕ → Type 0

@@ -1,26 +1,23 @@
 -- What judging one call answers for a condition.
-use Rattle.std.specs.Prelude.{◌≡◌, ℤ, false, List, [], ◌∷◌, map, Option, Some, None}
-use Rattle.spec_trees.specs.declared.LimitKind.{LimitKind}
-use Rattle.spec_trees.specs.Bounds.{Bounds}
-use Rattle.spec_trees.specs.Program.{Function, Condition}
+use Rattle.std.specs.Prelude.{◌≡◌, false, [], map, Option, Some, None}
+use Rattle.spec_first_trees.specs.declared.LimitKind.{LimitKind}
+use Rattle.spec_first_trees.specs.Bounds.{Bounds}
+use Rattle.spec_first_trees.specs.Program.{Function, Condition}
 use Rattle.spec_running.specs.declared.Value.{Value}
-use Rattle.spec_running.specs.declared.Value.TheVariants.{Int}
 use Rattle.spec_running.specs.declared.Outcome.{Outcome}
-use Rattle.spec_calls.specs.Calls.{Call}
-use Rattle.spec_contracts.specs.Forms.{Form}
-use Rattle.spec_contracts.specs.Admission.{function_of}
+use Rattle.spec_calls.specs.Calls.{Call, made}
 use Rattle.spec_verdicts.specs.Judging.{body_of}
 use Rattle.spec_verdicts.specs.Breaking.{broken, limited, is_unmet, line_fault, line_limit}
 use Rattle.spec_verdicts.specs.Breaking as breaking
 use Rattle.crosshair.specs.declared.calls.Call as declared
 use Rattle.crosshair.specs.declared.verdicts.Judgement.{Judgement}
 use Rattle.crosshair.specs.declared.verdicts.Judgement.TheVariants.{Held, Broken, Limited}
-use Rattle.crosshair.specs.Meaning.{call_with, fault_in}
+use Rattle.crosshair.specs.Meaning.{call_in, fault_in}
 
--- the body of the form ends so on this argument, with nothing on the heap
-pub record EndsBody (form : Form) (z : ℤ) (bounds : Bounds) (outcome : Outcome) : Type 0 where
-  pub is : (body_of (function_of form) (Int z ∷ []) bounds).outcome ≡ outcome
-  pub heap : (body_of (function_of form) (Int z ∷ []) bounds).after.heap ≡ []
+-- the body ends so in this call, with nothing on the heap
+pub record EndsBody (f : Function) (c : Call) (bounds : Bounds) (outcome : Outcome) : Type 0 where
+  pub is : (body_of f (map made c) bounds).outcome ≡ outcome
+  pub heap : (body_of f (map made c) bounds).after.heap ≡ []
 
 abbrev pub broken_by : Judgement → Option breaking.Fault
 broken_by Held = None
@@ -43,9 +40,6 @@ pub record IsLineJudged (returned : Value) (outcome : Outcome) (judgement : Judg
   pub broken : line_fault returned outcome ≡ broken_by judgement
   pub limited : line_limit outcome ≡ limited_by judgement
 
-abbrev pub calls_in : List declared.Call → List Call
-calls_in cs = map (λ c. call_with c.argument) cs
-
 -- the first of both, where there is one
 abbrev pub earlier : {X : Type 0} → Option X → Option X → Option X
 earlier (Some x) o = Some x
@@ -54,4 +48,4 @@ earlier None o = o
 -- a kept call with its limit
 abbrev pub kept : Option (declared.Call × LimitKind) → Option (Call × LimitKind)
 kept None = None
-kept (Some x) = Some (call_with x.0.argument, x.1)
+kept (Some x) = Some (call_in x.0, x.1)

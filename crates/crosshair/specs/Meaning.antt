@@ -1,17 +1,17 @@
 -- What the types of this crate mean to the definitions.
 use Rattle.std.specs.Prelude.{ℕ, ℤ, Bool, List, [], ◌∷◌, map, Option, Some, None}
 use Rattle.std.specs.Borrow.{Bor}
-use Rattle.spec_trees.specs.Program.{Function}
-use Rattle.spec_trees.specs.Program as program
+use Rattle.spec_first_trees.specs.Program.{Function, Parameter, Integer, Return}
+use Rattle.spec_first_trees.specs.Program as program
 use Rattle.spec_calls.specs.Calls.{Call, Number}
 use Rattle.spec_contracts.specs.Forms.{Head}
-use Rattle.spec_contracts.specs.Admission.{function_of}
 use Rattle.spec_verdicts.specs.Breaking as breaking
 use Rattle.spec_verdicts.specs.Verdicts as verdicts
-use Rattle.py_tree.specs.declared.nodes.ExprNode.{ExprNode}
-use Rattle.py_tree.specs.declared.nodes.FnNode.{FnNode}
-use Rattle.py_tree.specs.Arena.{shown}
-use Rattle.py_parser.specs.Answers.{form_in}
+use Rattle.first_tree.specs.declared.nodes.ExprNode.{ExprNode}
+use Rattle.first_tree.specs.declared.nodes.FnNode.{FnNode}
+use Rattle.first_tree.specs.declared.nodes.Parameters.{Parameters}
+use Rattle.first_tree.specs.Arena.{shown}
+use Rattle.crosshair.specs.declared.calls.Call as declared
 use Rattle.crosshair.specs.declared.verdicts.Fault.{Fault}
 use Rattle.crosshair.specs.declared.verdicts.Fault.TheVariants.{WasFalse, RaisedInBody, RaisedInPost}
 use Rattle.crosshair.specs.declared.verdicts.Verdict.{Verdict}
@@ -23,15 +23,32 @@ abbrev pub texts_of : List (Bor (List ℕ)) → List (List ℕ)
 texts_of names = map (λ n. n.now) names
 
 abbrev pub head_in : FnNode → Head
-head_in f = record { name = f.name; parameter = f.parameter }
+head_in f = record { name = f.name; parameter = f.parameters.first }
 
--- the checked function of a node
-abbrev pub function_in : List ExprNode → FnNode → Function
-function_in nodes f = function_of (form_in nodes f)
+abbrev pub int_parameter : List ℕ → Parameter
+int_parameter x = record { name = x; type = Integer }
+
+-- the second parameter, where there is one
+abbrev pub second_parameters : Option (List ℕ) → List Parameter
+second_parameters None = []
+second_parameters (Some x) = int_parameter x ∷ []
+
+abbrev pub parameters_in : Parameters → List Parameter
+parameters_in p = int_parameter p.first ∷ second_parameters p.second
 
 abbrev pub condition_in : List ExprNode → FnNode → Condition → program.Condition
-condition_in nodes f Raises = program.Raises 1
-condition_in nodes f Post = program.Post 2 (shown nodes f.post.index)
+condition_in nodes f Raises = program.Raises f.line
+condition_in nodes f Post = program.Post f.post_line (shown nodes f.post.index)
+
+-- The checked function of a node. No report shows the number of a statement yet, so the one statement of each function has number 0.
+abbrev pub function_in : List ExprNode → FnNode → Function
+function_in nodes f = record {
+  name = f.name;
+  parameters = parameters_in f.parameters;
+  preconditions = [];
+  conditions = condition_in nodes f Raises ∷ condition_in nodes f Post ∷ [];
+  body = record { number = 0; statement = Return (shown nodes f.value.index) } ∷ [];
+}
 
 -- f of both integers, where both are there
 abbrev pub both : (ℤ → ℤ → Bool) → Option ℤ → Option ℤ → Option Bool
@@ -39,9 +56,16 @@ both f (Some a) (Some b) = Some (f a b)
 both f (Some a) None = None
 both f None b = None
 
--- the call with this argument
-abbrev pub call_with : ℤ → Call
-call_with z = Number z ∷ []
+-- the second argument, where there is one
+abbrev pub second_in : Option ℤ → Call
+second_in None = []
+second_in (Some z) = Number z ∷ []
+
+abbrev pub call_in : declared.Call → Call
+call_in c = Number c.first ∷ second_in c.second
+
+abbrev pub calls_in : List declared.Call → List Call
+calls_in cs = map call_in cs
 
 abbrev pub fault_in : Fault → breaking.Fault
 fault_in (WasFalse v) = breaking.WasFalse v
@@ -49,7 +73,7 @@ fault_in (RaisedInBody c) = breaking.RaisedInBody c
 fault_in (RaisedInPost c) = breaking.RaisedInPost c
 
 abbrev pub verdict_in : Verdict → verdicts.Verdict
-verdict_in (Error c fault) = verdicts.Error (call_with c.argument) (fault_in fault)
-verdict_in (NotConfirmed c k) = verdicts.NotConfirmed (call_with c.argument) k
+verdict_in (Error c fault) = verdicts.Error (call_in c) (fault_in fault)
+verdict_in (NotConfirmed c k) = verdicts.NotConfirmed (call_in c) k
 verdict_in Unmet = verdicts.Unmet
 verdict_in Confirmed = verdicts.Confirmed

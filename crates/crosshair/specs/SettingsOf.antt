@@ -1,6 +1,6 @@
 -- The settings, as definitions speak of them.
 use Rattle.spec_verdicts.specs.Settings as spec
-use Rattle.py_tree.specs.BoundsOf.{bounds_of}
+use Rattle.first_tree.specs.BoundsOf.{bounds_of}
 use Rattle.crosshair.specs.declared.settings.Settings.{Settings}
 
 -- what the settings ask for

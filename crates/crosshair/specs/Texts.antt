@@ -1,11 +1,11 @@
 -- The parts of a report.
 use Rattle.std.specs.Prelude.{ℕ, Bool, List, map}
-use Rattle.spec_trees.specs.Bounds.{Bounds}
-use Rattle.spec_trees.specs.Program.{Program, Function, Condition}
+use Rattle.spec_first_trees.specs.Bounds.{Bounds}
+use Rattle.spec_first_trees.specs.Program.{Program, Function, Condition}
 use Rattle.spec_verdicts.specs.Verdicts.{verdict}
 use Rattle.spec_verdicts.specs.Lines.{verdict_line}
 use Rattle.spec_verdicts.specs.Report.{line_of, is_error}
-use Rattle.py_tree.specs.Arena.{ModuleState}
+use Rattle.first_tree.specs.Arena.{ModuleState}
 use Rattle.crosshair.specs.Meaning.{function_in}
 
 -- what is written for a condition

@@ -5,9 +5,9 @@ ghost use Rattle.spec_contracts.specs.Admission.{admit, formed};
 ghost use Rattle.crosshair.specs.Answers.{IsAdmission, IsNamed};
 
 use crate::names::broken_line;
-use py_parser::{SyntaxError, module};
-use py_tokens::{TokenError, Tokens, scan};
-use py_tree::Module;
+use first_parser::{SyntaxError, module};
+use first_tokens::{TokenError, Tokens, scan};
+use first_tree::Module;
 use std::alloc::Global;
 use thiserror::Error;
 

@@ -5,7 +5,7 @@ ghost use Rattle.spec_verdicts.specs.Settings.{begins_with_dash, is_target, sett
 ghost use Rattle.crosshair.specs.SettingsOf.{settings_in};
 
 use crate::settings::Settings;
-use py_tree::Bounds;
+use first_tree::Bounds;
 use std::alloc::Global;
 use xh_outside::{Name, NoMemory, Words};
 

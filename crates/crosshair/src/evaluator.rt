@@ -2,11 +2,11 @@
 ghost use Rattle.std.specs.Prelude.{◌≡◌, ◌<◌, pos, length};
 ghost use Rattle.spec_running.specs.Running.{eval, read};
 ghost use Rattle.spec_running.specs.States.{local};
-ghost use Rattle.py_tree.specs.Arena.{shown};
+ghost use Rattle.first_tree.specs.Arena.{shown};
 ghost use Rattle.crosshair.specs.Evaluates.{locals_of, RunsTo, stepped, AreOperands};
 
 use crate::operations::{calculated, compared};
-use py_tree::{ExcClass, ExprId, ExprNode, LimitKind, Module};
+use first_tree::{ExcClass, ExprId, ExprNode, LimitKind, Module};
 use spec_running::{Outcome, Value};
 
 /// A name with its value.

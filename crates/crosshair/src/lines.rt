@@ -1,11 +1,13 @@
 ghost use Rattle.std.specs.Prelude.{◌≡◌, ◌++◌, List, IfOk, OnOk};
-ghost use Rattle.spec_calls.specs.Printing.{printed, shown};
+ghost use Rattle.spec_calls.specs.Calls.{Number};
+ghost use Rattle.spec_calls.specs.Printing.{named, arguments_text, printed, shown};
 ghost use Rattle.spec_verdicts.specs.Lines.{class_name, error_line, fault_text, refusal_line, which_returns};
-ghost use Rattle.py_tree.specs.declared.nodes.ExprNode.{ExprNode};
-ghost use Rattle.crosshair.specs.Meaning.{call_with, fault_in, function_in};
+ghost use Rattle.first_tree.specs.declared.nodes.ExprNode.{ExprNode};
+ghost use Rattle.crosshair.specs.Meaning.{call_in, fault_in, function_in, parameters_in};
 
+use crate::calls::Call;
 use crate::verdicts::Fault;
-use py_tree::{ExcClass, FnNode};
+use first_tree::{ExcClass, FnNode, Parameters};
 use spec_running::Value;
 use std::alloc::Global;
 use xh_outside::{Bytes, NoMemory};
@@ -19,68 +21,96 @@ pub fn refusal_line(alloc: Global, name: &str, line: u32, kind: &str) -> Result<
     Ok(text)
 }
 
-/// The line `NAME:LINE: error: TEXT`, where the call with this argument breaks a condition of the
-/// function. The only error is that there is no memory for it.
+/// The line `NAME:LINE: error: TEXT`, where this call breaks a condition of the function. The only error is that there is no memory for it.
 pub fn error_line(
     alloc: Global,
     name: &str,
     line: u32,
     function: &FnNode,
-    argument: i64,
+    call: Call,
     fault: Fault,
 ) -> Result<Bytes, NoMemory>
-    ensures { IfOk result (λ text. (nodes : List ExprNode) → text ≡ error_line name.now line (function_in nodes function.now) (call_with argument) (fault_in fault)) }
+    ensures { IfOk result (λ text. (nodes : List ExprNode) → text ≡ error_line name.now line (function_in nodes function.now) (call_in call) (fault_in fault)) }
 {
     let mut text = Bytes::new(alloc);
     text.extend(format!(in alloc; "{name}:{line}: error: ")?.as_bytes())?;
-    add_fault(alloc, &mut text, function, argument, fault)?;
+    add_fault(alloc, &mut text, function, call, fault)?;
     text.extend(b"\n")?;
     Ok(text)
 }
 
-/// Appends what breaks a condition in the call with this argument.
+/// Appends what breaks a condition in this call.
 fn add_fault(
     alloc: Global,
     text: &mut Bytes,
     function: &FnNode,
-    argument: i64,
+    call: Call,
     fault: Fault,
 ) -> Result<(), NoMemory>
-    ensures { OnOk result ((nodes : List ExprNode) → text.new ≡ text.old ++ fault_text (function_in nodes function.now) (call_with argument) (fault_in fault)) }
+    ensures { OnOk result ((nodes : List ExprNode) → text.new ≡ text.old ++ fault_text (function_in nodes function.now) (call_in call) (fault_in fault)) }
 {
     match fault {
         Fault::WasFalse(value) => {
             text.extend(b"false when calling ")?;
-            add_call(alloc, text, function, argument)?;
+            add_call(alloc, text, function, call)?;
             add_returned(alloc, text, value)?;
         }
         Fault::RaisedInBody(class) => {
             text.extend(class_name(class).as_bytes())?;
             text.extend(b" when calling ")?;
-            add_call(alloc, text, function, argument)?;
+            add_call(alloc, text, function, call)?;
         }
         Fault::RaisedInPost(class) => {
             text.extend(class_name(class).as_bytes())?;
             text.extend(b" in postcondition when calling ")?;
-            add_call(alloc, text, function, argument)?;
+            add_call(alloc, text, function, call)?;
         }
     }
     Ok(())
 }
 
-/// Appends the call `NAME(PARAMETER = ARGUMENT)`.
-fn add_call(
-    alloc: Global,
-    text: &mut Bytes,
-    function: &FnNode,
-    argument: i64,
-) -> Result<(), NoMemory>
-    ensures { OnOk result ((nodes : List ExprNode) → text.new ≡ text.old ++ printed (function_in nodes function.now) (call_with argument)) }
+/// Appends the call `NAME(P1 = A1, P2 = A2)`.
+fn add_call(alloc: Global, text: &mut Bytes, function: &FnNode, call: Call) -> Result<(), NoMemory>
+    ensures { OnOk result ((nodes : List ExprNode) → text.new ≡ text.old ++ printed (function_in nodes function.now) (call_in call)) }
 {
     text.extend(function.name.as_slice())?;
     text.extend(b"(")?;
-    text.extend(function.parameter.as_slice())?;
-    text.extend(format!(in alloc; " = {argument})")?.as_bytes())?;
+    add_arguments(alloc, text, &function.parameters, call)?;
+    text.extend(b")")?;
+    Ok(())
+}
+
+/// Appends the parameters with their arguments.
+fn add_arguments(
+    alloc: Global,
+    text: &mut Bytes,
+    parameters: &Parameters,
+    call: Call,
+) -> Result<(), NoMemory>
+    ensures { OnOk result (text.new ≡ text.old ++ arguments_text (parameters_in parameters.now) (call_in call)) }
+{
+    add_argument(alloc, text, &parameters.first, call.first)?;
+    let Some(second) = &parameters.second else {
+        return Ok(());
+    };
+    text.extend(b", ")?;
+    match call.second {
+        Some(argument) => add_argument(alloc, text, second, argument),
+        None => Ok(()),
+    }
+}
+
+/// Appends `NAME = ARGUMENT`.
+fn add_argument(
+    alloc: Global,
+    text: &mut Bytes,
+    name: &Bytes,
+    argument: i64,
+) -> Result<(), NoMemory>
+    ensures { OnOk result (text.new ≡ text.old ++ named name.now (Number argument)) }
+{
+    text.extend(name.as_slice())?;
+    text.extend(format!(in alloc; " = {argument}")?.as_bytes())?;
     Ok(())
 }
 

@@ -3,11 +3,11 @@ ghost use Rattle.std.specs.Prelude.{◌≡◌, ◌<◌, length};
 ghost use Rattle.std.specs.List.{list_any};
 ghost use Rattle.std.specs.Str.{bytes_eq};
 ghost use Rattle.spec_contracts.specs.Names.{is_builtin, is_among, names_among, is_head_named, broken_line};
-ghost use Rattle.py_tree.specs.Arena.{shown};
-ghost use Rattle.py_parser.specs.Answers.{form_in};
+ghost use Rattle.first_tree.specs.Arena.{shown};
+ghost use Rattle.first_parser.specs.Answers.{form_in};
 ghost use Rattle.crosshair.specs.Meaning.{head_in, texts_of};
 
-use py_tree::{ExprId, ExprNode, FnNode, Module};
+use first_tree::{ExprId, ExprNode, FnNode, Module};
 use spec_contracts::BUILTINS;
 
 /// The name of the returned value in a post line (PEP 316).
@@ -60,13 +60,13 @@ fn names_among(trees: &Module, e: ExprId, names: &[&[u8]]) -> bool
     }
 }
 
-/// Whether a function and its parameter are named as they may be.
+/// Whether a function and its first parameter are named as they may be.
 fn is_head_named(function: &FnNode) -> bool
     ensures { result ≡ is_head_named (head_in function.now) }
 {
     !is_builtin(function.name.as_slice())
         && function.name.as_slice() != RETURNED
-        && function.parameter.as_slice() != RETURNED
+        && function.parameters.first.as_slice() != RETURNED
 }
 
 /// The first line, from 1, that breaks a rule on names.
@@ -76,7 +76,7 @@ pub fn broken_line(trees: &Module, function: &FnNode) -> Option<u32>
     requires value { function.now.value.index < length trees.now.nodes }
     ensures { result ≡ broken_line (form_in trees.now.nodes function.now) }
 {
-    let parameter = function.parameter.as_slice();
+    let parameter = function.parameters.first.as_slice();
     if !is_head_named(function) {
         Some(1)
     } else if !names_among(trees, function.post, &[parameter, RETURNED]) {

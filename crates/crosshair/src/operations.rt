@@ -3,7 +3,7 @@ ghost use Rattle.std.specs.Prelude.{◌≡◌, int_lt, int_le};
 ghost use Rattle.spec_running.specs.Operations.{number, truth, computed, arithmetic, calculated, equal, compared};
 ghost use Rattle.crosshair.specs.Meaning.{both};
 
-use py_tree::{BinaryOp, CompareOp, ExcClass, LimitKind};
+use first_tree::{BinaryOp, CompareOp, ExcClass, LimitKind};
 use spec_running::{Outcome, Value};
 
 /// The integer of an integer or a truth value. None has none.

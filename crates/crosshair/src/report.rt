@@ -4,10 +4,9 @@ ghost use Rattle.std.specs.Io.KnownBytes.{append_known};
 ghost use Rattle.xh_outside.specs.Causes.{Rose};
 ghost use Rattle.xh_outside.specs.Reading.{next_left, read_of};
 ghost use Rattle.xh_outside.specs.Writing.{AppendsPart};
-ghost use Rattle.py_tree.specs.declared.nodes.ExprNode.{ExprNode};
-ghost use Rattle.py_tree.specs.declared.nodes.FnNode.{FnNode};
-ghost use Rattle.py_tree.specs.Arena.{IsFunctionBelow};
-ghost use Rattle.py_tree.specs.BoundsOf.{bounds_of};
+ghost use Rattle.first_tree.specs.declared.nodes.ExprNode.{ExprNode};
+ghost use Rattle.first_tree.specs.Arena.{IsFunctionBelow};
+ghost use Rattle.first_tree.specs.BoundsOf.{bounds_of};
 ghost use Rattle.spec_verdicts.specs.Lines.{fault_line, refusal_line, verdict_line};
 ghost use Rattle.spec_verdicts.specs.Report.{entry_of, function_text, has_error, is_error, line_of, program_report, refused, report_of, reported};
 ghost use Rattle.spec_verdicts.specs.declared.TheConstants.{READ_LIMIT};
@@ -19,18 +18,18 @@ use crate::admission::{StageError, admit};
 use crate::lines::{error_line, refusal_line};
 use crate::stop::Stop;
 use crate::verdicts::{Condition, Verdict, verdict_of};
-use py_tree::{Bounds, FnNode, Module};
+use first_tree::{Bounds, FnNode, Module};
 use spec_verdicts::READ_LIMIT;
 use std::alloc::Global;
 use xh_outside::{Bytes, Files, NoMemory, ReadError, Sink, write_all};
 
 /// The line under which a condition is reported.
-fn line_of(condition: Condition) -> u32
-    ensures { (nodes : List ExprNode) (f : FnNode) → result ≡ line_of (condition_in nodes f condition) }
+fn line_of(function: &FnNode, condition: Condition) -> u32
+    ensures { (nodes : List ExprNode) → result ≡ line_of (condition_in nodes function.now condition) }
 {
     match condition {
-        Condition::Raises => 1,
-        Condition::Post => 2,
+        Condition::Raises => function.line,
+        Condition::Post => function.post_line,
     }
 }
 
@@ -49,7 +48,7 @@ fn add_verdict(
 {
     match verdict {
         Verdict::Error { call, fault } => {
-            let piece = error_line(alloc, name, line, function, call.argument, fault)?;
+            let piece = error_line(alloc, name, line, function, call, fault)?;
             text.extend(piece.as_slice())?;
             Ok(true)
         }
@@ -74,7 +73,14 @@ fn add_condition(
     ensures fails { IfOk result (λ fails. fails ≡ condition_fails (bounds_of bounds.now) (function_in trees.now.nodes function.now) (condition_in trees.now.nodes function.now condition)) }
 {
     let verdict = verdict_of(alloc, trees, function, condition, bounds)?;
-    add_verdict(alloc, name, line_of(condition), function, verdict, text)
+    add_verdict(
+        alloc,
+        name,
+        line_of(function, condition),
+        function,
+        verdict,
+        text,
+    )
 }
 
 /// Appends the lines of a function's conditions, and answers whether one is an error.
@@ -105,7 +111,7 @@ fn add_function(
 }
 
 /// Appends the lines of a program's functions, and answers whether one is an error.
-fn add_program(
+pub fn add_program(
     alloc: Global,
     name: &str,
     trees: &Module,

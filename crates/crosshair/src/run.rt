@@ -1,6 +1,6 @@
 ghost use Rattle.std.specs.Prelude.{◌≡◌, ◌≢◌, ◌⊎◌, ◌≤◌, IfOk, IfSome, IsSome};
 ghost use Rattle.xh_outside.specs.Causes.{Rose};
-ghost use Rattle.py_tree.specs.BoundsOf.{bounds_of};
+ghost use Rattle.first_tree.specs.BoundsOf.{bounds_of};
 ghost use Rattle.spec_verdicts.specs.Lines.{usage};
 ghost use Rattle.spec_verdicts.specs.Report.{known_total, refused, reported, targets_total};
 ghost use Rattle.spec_verdicts.specs.Settings.{settings};
@@ -10,7 +10,7 @@ ghost use Rattle.crosshair.specs.Ends.{Ends, HasStopCause, IsCutShort, IsDone, I
 use crate::commands::settings;
 use crate::report::check_target;
 use crate::stop::Stop;
-use py_tree::Bounds;
+use first_tree::Bounds;
 use std::alloc::Global;
 use xh_outside::{Files, Sink, Words, write_all};
 

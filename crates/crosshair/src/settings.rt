@@ -1,4 +1,4 @@
-use py_tree::Bounds;
+use first_tree::Bounds;
 use xh_outside::Words;
 
 /// What the words of the command line ask for: a check of these files under these bounds.

@@ -1,8 +1,12 @@
+ghost use Rattle.std.specs.Prelude.{◌≡◌, ◌<◌, ◌≤◌, length, IfOk};
+
+use crate::report::add_program;
 use crate::run::run;
+use first_tree::{BinaryOp, Bounds, CompareOp, ExprId, ExprNode, FnNode, Module, Parameters};
 use std::alloc::Global;
 use std::process::Abort;
 use std::test::Fail;
-use xh_outside::{Bytes, MemFiles, MemSink, Name, Words};
+use xh_outside::{Bytes, MemFiles, MemSink, Name, NoMemory, Words};
 
 const USAGE: &str = "usage: crosshair check [OPTIONS] FILE[:LINE]...\n       crosshair demo N\n";
 
@@ -161,4 +165,181 @@ fn a_write_fails_once(rt: HostRuntime) -> Result<(), Fail> {
     assert_eq!(rt; status, 5);
     assert_eq!(rt; out.written(), b"".as_slice());
     Ok(())
+}
+
+fn bytes_of(alloc: Global, text: &[u8]) -> Result<Bytes, NoMemory> {
+    let mut copy = Bytes::new(alloc);
+    copy.extend(text)?;
+    Ok(copy)
+}
+
+/// Adds a name to a trees.
+fn add_name(alloc: Global, trees: &mut Module, text: &[u8]) -> Result<ExprId, NoMemory>
+    ensures grown { length trees.old.nodes ≤ length trees.new.nodes }
+    ensures here { IfOk result (λ e. e.index < length trees.new.nodes) }
+{
+    let name = bytes_of(alloc, text)?;
+    trees.add_expr(ExprNode::Name { name, line: 1 })
+}
+
+/// Adds an integer to a trees.
+fn add_int(trees: &mut Module, value: u32) -> Result<ExprId, NoMemory>
+    ensures grown { length trees.old.nodes ≤ length trees.new.nodes }
+    ensures here { IfOk result (λ e. e.index < length trees.new.nodes) }
+{
+    trees.add_expr(ExprNode::Int { value, line: 1 })
+}
+
+/// Adds an operation on two names to a trees.
+fn add_operation(
+    alloc: Global,
+    trees: &mut Module,
+    op: BinaryOp,
+    left: &[u8],
+    right: &[u8],
+) -> Result<ExprId, NoMemory>
+    ensures grown { length trees.old.nodes ≤ length trees.new.nodes }
+    ensures here { IfOk result (λ e. e.index < length trees.new.nodes) }
+{
+    let left = add_name(alloc, trees, left)?;
+    let right = add_name(alloc, trees, right)?;
+    trees.add_expr(ExprNode::Binary {
+        op,
+        left,
+        right,
+        line: 1,
+    })
+}
+
+/// Adds a comparison to a trees.
+fn add_comparison(
+    trees: &mut Module,
+    op: CompareOp,
+    left: ExprId,
+    right: ExprId,
+) -> Result<ExprId, NoMemory>
+    requires left { left.index < length trees.old.nodes }
+    requires right { right.index < length trees.old.nodes }
+    ensures grown { length trees.old.nodes ≤ length trees.new.nodes }
+    ensures here { IfOk result (λ e. e.index < length trees.new.nodes) }
+{
+    trees.add_expr(ExprNode::Compare {
+        op,
+        left,
+        right,
+        line: 1,
+    })
+}
+
+/// Adds a function whose parameters are `x` and perhaps another. Its `def` and its post condition stand on these lines.
+fn add_node(
+    alloc: Global,
+    trees: &mut Module,
+    name: &[u8],
+    second: Option<&[u8]>,
+    lines: (u32, u32),
+    parts: (ExprId, ExprId),
+) -> Result<(), NoMemory>
+    requires post { parts.0.index < length trees.old.nodes }
+    requires value { parts.1.index < length trees.old.nodes }
+    ensures { trees.new.nodes ≡ trees.old.nodes }
+{
+    let second = match second {
+        Some(text) => Some(bytes_of(alloc, text)?),
+        None => None,
+    };
+    trees.add_function(FnNode {
+        name: bytes_of(alloc, name)?,
+        line: lines.0,
+        parameters: Parameters {
+            first: bytes_of(alloc, b"x")?,
+            second,
+        },
+        post: parts.0,
+        post_line: lines.1,
+        value: parts.1,
+    })
+}
+
+/// Adds `add(x, y)`, which stands on the lines from 1 to 3, and whose result without y is x.
+fn add_sum(alloc: Global, trees: &mut Module) -> Result<(), NoMemory> {
+    let difference = add_operation(alloc, trees, BinaryOp::Subtract, b"__return__", b"y")?;
+    let x = add_name(alloc, trees, b"x")?;
+    let post = add_comparison(trees, CompareOp::Equal, difference, x)?;
+    let value = add_operation(alloc, trees, BinaryOp::Add, b"x", b"y")?;
+    add_node(alloc, trees, b"add", Some(b"y"), (1, 2), (post, value))
+}
+
+/// Adds `sq(x)`, which stands on the lines from 4 to 6, and whose result is said to be above 0.
+fn add_square(alloc: Global, trees: &mut Module) -> Result<(), NoMemory> {
+    let returned = add_name(alloc, trees, b"__return__")?;
+    let zero = add_int(trees, 0)?;
+    let post = add_comparison(trees, CompareOp::Greater, returned, zero)?;
+    let value = add_operation(alloc, trees, BinaryOp::Multiply, b"x", b"x")?;
+    add_node(alloc, trees, b"sq", None, (4, 5), (post, value))
+}
+
+/// Adds `sub(x, y)`, whose `def` stands on line 7, and whose result is said on line 9 to be below 1.
+fn add_difference(alloc: Global, trees: &mut Module) -> Result<(), NoMemory> {
+    let returned = add_name(alloc, trees, b"__return__")?;
+    let one = add_int(trees, 1)?;
+    let post = add_comparison(trees, CompareOp::Less, returned, one)?;
+    let value = add_operation(alloc, trees, BinaryOp::Subtract, b"x", b"y")?;
+    add_node(alloc, trees, b"sub", Some(b"y"), (7, 9), (post, value))
+}
+
+/// Adds `lost(x, y)`, whose `def` stands on line 11, and which returns a name that it does not have.
+fn add_lost(alloc: Global, trees: &mut Module) -> Result<(), NoMemory> {
+    let post = add_int(trees, 1)?;
+    let value = add_name(alloc, trees, b"z")?;
+    add_node(alloc, trees, b"lost", Some(b"y"), (11, 12), (post, value))
+}
+
+fn expect_report(
+    rt: &impl Abort,
+    alloc: Global,
+    trees: &Module,
+    want: (bool, &str),
+) -> Result<(), Fail> {
+    let mut text = Bytes::new(alloc);
+    let fails = add_program(alloc, "m.py", trees, &Bounds::standard(), &mut text)?;
+    assert_eq!(rt; fails, want.0);
+    assert_eq!(rt; text.as_slice(), want.1.as_bytes());
+    Ok(())
+}
+
+#[test]
+fn reports_each_function(rt: HostRuntime) -> Result<(), Fail> {
+    let alloc = rt.alloc();
+    let mut trees = Module::new(alloc);
+    expect_report(&rt, alloc, &trees, (false, ""))?;
+    add_sum(alloc, &mut trees)?;
+    expect_report(&rt, alloc, &trees, (false, ""))?;
+    add_square(alloc, &mut trees)?;
+    expect_report(
+        &rt,
+        alloc,
+        &trees,
+        (
+            true,
+            "m.py:5: error: false when calling sq(x = 0) (which returns 0)\n",
+        ),
+    )
+}
+
+#[test]
+fn the_first_argument_counts_most(rt: HostRuntime) -> Result<(), Fail> {
+    let alloc = rt.alloc();
+    let mut trees = Module::new(alloc);
+    add_difference(alloc, &mut trees)?;
+    add_lost(alloc, &mut trees)?;
+    expect_report(
+        &rt,
+        alloc,
+        &trees,
+        (
+            true,
+            "m.py:9: error: false when calling sub(x = 0, y = -1) (which returns 1)\nm.py:11: error: UnboundLocalError when calling lost(x = 0, y = 0)\n",
+        ),
+    )
 }

@@ -1,28 +1,30 @@
 // The verdict of a condition: its calls are tried one after the other.
-ghost use Rattle.std.specs.Prelude.{◌≡◌, ◌<◌, [], length, codes, IfOk};
+ghost use Rattle.std.specs.Prelude.{◌≡◌, ◌<◌, [], length, codes, map, option_map, option_to_list, IfOk};
+ghost use Rattle.spec_running.specs.Running.{bound};
+ghost use Rattle.spec_calls.specs.Calls.{made};
 ghost use Rattle.spec_verdicts.specs.Breaking.{line_outcome};
 ghost use Rattle.spec_verdicts.specs.Verdicts.{verdict, verdict_over, undecided};
-ghost use Rattle.py_tree.specs.Arena.{shown};
-ghost use Rattle.py_tree.specs.BoundsOf.{bounds_of};
-ghost use Rattle.py_parser.specs.Answers.{form_in};
-ghost use Rattle.crosshair.specs.Meaning.{function_in, condition_in, call_with, verdict_in};
-ghost use Rattle.crosshair.specs.Judges.{EndsBody, IsJudged, IsLineJudged, calls_in, kept};
+ghost use Rattle.first_tree.specs.Arena.{shown};
+ghost use Rattle.first_tree.specs.BoundsOf.{bounds_of};
+ghost use Rattle.crosshair.specs.Evaluates.{local_in};
+ghost use Rattle.crosshair.specs.Meaning.{function_in, condition_in, call_in, calls_in, second_in, second_parameters, verdict_in};
+ghost use Rattle.crosshair.specs.Judges.{EndsBody, IsJudged, IsLineJudged, kept};
 
 use crate::calls::{Call, listing};
 use crate::evaluator::{Local, evaluate};
 use crate::names::RETURNED;
 use crate::operations::truth;
-use py_tree::{Bounds, ExcClass, FnNode, LimitKind, Module};
+use first_tree::{Bounds, ExcClass, FnNode, LimitKind, Module, Parameters};
 use spec_running::{Outcome, Value};
 use std::alloc::Global;
-use xh_outside::NoMemory;
+use xh_outside::{Bytes, NoMemory};
 
 /// A condition of a function.
 #[derive(Clone, Copy, Debug, PartialEq, Eq)]
 pub enum Condition {
-    /// No exception class is raised; reported at line 1.
+    /// No exception class is raised; reported at the line of the `def`.
     Raises,
-    /// The post line holds; reported at line 2.
+    /// The post line holds; reported at its own line.
     Post,
 }
 
@@ -52,23 +54,39 @@ pub enum Verdict {
     Confirmed,
 }
 
-/// The value of the argument of a call.
-fn argument_of(call: Call) -> Value
-    ensures { result ≡ Value.Int call.argument }
+/// A parameter with its argument.
+fn local_of(name: &Bytes, argument: i64) -> Local<'_>
+    ensures name { result.name.now ≡ name.now }
+    ensures value { result.value ≡ Value.Int argument }
 {
-    Value::Int(i128::from(call.argument))
+    Local {
+        name: name.as_slice(),
+        value: Value::Int(i128::from(argument)),
+    }
+}
+
+/// The second parameter with its argument, where there is one.
+fn second_local(parameters: &Parameters, call: Call) -> Option<Local<'_>>
+    ensures { option_to_list (option_map local_in result) ≡ bound (second_parameters parameters.now.second) (map made (second_in call.second)) }
+{
+    match (&parameters.second, call.second) {
+        (Some(name), Some(argument)) => Some(local_of(name, argument)),
+        _ => None,
+    }
 }
 
 /// How the body ends. Its `return` statement takes a step of its own.
 fn run_body(trees: &Module, function: &FnNode, call: Call, bounds: &Bounds) -> Outcome
     requires { function.now.value.index < length trees.now.nodes }
-    ensures { EndsBody (form_in trees.now.nodes function.now) call.argument (bounds_of bounds.now) result }
+    ensures { EndsBody (function_in trees.now.nodes function.now) (call_in call) (bounds_of bounds.now) result }
 {
-    let locals = [Local {
-        name: function.parameter.as_slice(),
-        value: argument_of(call),
-    }];
-    evaluate(trees, function.value, &locals, bounds.max_steps - 1).outcome
+    let steps = bounds.max_steps - 1;
+    let first = local_of(&function.parameters.first, call.first);
+    let ended = match second_local(&function.parameters, call) {
+        Some(second) => evaluate(trees, function.value, &[first, second], steps),
+        None => evaluate(trees, function.value, &[first], steps),
+    };
+    ended.outcome
 }
 
 /// How the post line ends behind a body that returned.
@@ -80,19 +98,19 @@ fn run_line(
     bounds: &Bounds,
 ) -> Outcome
     requires { function.now.post.index < length trees.now.nodes }
-    ensures { result ≡ line_outcome (function_in trees.now.nodes function.now) (call_with call.argument) (bounds_of bounds.now) [] returned (shown trees.now.nodes function.now.post.index) }
+    ensures { result ≡ line_outcome (function_in trees.now.nodes function.now) (call_in call) (bounds_of bounds.now) [] returned (shown trees.now.nodes function.now.post.index) }
 {
-    let locals = [
-        Local {
-            name: function.parameter.as_slice(),
-            value: argument_of(call),
-        },
-        Local {
-            name: RETURNED,
-            value: returned,
-        },
-    ];
-    evaluate(trees, function.post, &locals, bounds.max_steps).outcome
+    let steps = bounds.max_steps;
+    let first = local_of(&function.parameters.first, call.first);
+    let returned = Local {
+        name: RETURNED,
+        value: returned,
+    };
+    let ended = match second_local(&function.parameters, call) {
+        Some(second) => evaluate(trees, function.post, &[first, second, returned], steps),
+        None => evaluate(trees, function.post, &[first, returned], steps),
+    };
+    ended.outcome
 }
 
 /// What the outcome of a post line says of its condition.
@@ -122,7 +140,7 @@ fn judge(
 ) -> Judgement
     requires post { function.now.post.index < length trees.now.nodes }
     requires value { function.now.value.index < length trees.now.nodes }
-    ensures { IsJudged (function_in trees.now.nodes function.now) (condition_in trees.now.nodes function.now condition) (bounds_of bounds.now) (call_with call.argument) result }
+    ensures { IsJudged (function_in trees.now.nodes function.now) (condition_in trees.now.nodes function.now condition) (bounds_of bounds.now) (call_in call) result }
 {
     match (run_body(trees, function, call, bounds), condition) {
         (Outcome::Limit(kind), _) => Judgement::Limited(kind),
@@ -188,6 +206,6 @@ pub fn verdict_of(
     requires value { function.now.value.index < length trees.now.nodes }
     ensures { IfOk result (λ v. verdict (function_in trees.now.nodes function.now) (condition_in trees.now.nodes function.now condition) (bounds_of bounds.now) ≡ verdict_in v) }
 {
-    let calls = listing(alloc, bounds.int_bits)?;
+    let calls = listing(alloc, &function.parameters, bounds)?;
     Ok(verdict_over(trees, function, condition, bounds, &calls))
 }

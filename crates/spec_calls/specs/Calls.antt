@@ -1,8 +1,8 @@
 -- The calls of a function within the bounds, in their order.
 use Rattle.std.specs.Prelude.{ℕ, zero, suc, ◌-◌, ◌^◌, ℤ, pos, negsuc, List, [], ◌∷◌, ◌++◌, map}
 use Rattle.std.specs.List.{flat_map}
-use Rattle.spec_trees.specs.Bounds.{Bounds}
-use Rattle.spec_trees.specs.Program.{ParameterType, Integer, Parameter, Function}
+use Rattle.spec_first_trees.specs.Bounds.{Bounds}
+use Rattle.spec_first_trees.specs.Program.{ParameterType, Integer, Parameter, Function}
 use Rattle.spec_running.specs.declared.Value.{Value}
 use Rattle.spec_running.specs.declared.Value.TheVariants.{Int}
 

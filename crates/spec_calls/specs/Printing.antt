@@ -1,7 +1,7 @@
 -- How calls and values are printed.
 use Rattle.std.specs.Prelude.{ℕ, List, [], ◌∷◌, ◌++◌, codes, if◌then◌else◌}
 use Rattle.std.specs.Fmt.{signed_decimal}
-use Rattle.spec_trees.specs.Program.{Parameter, Function}
+use Rattle.spec_first_trees.specs.Program.{Parameter, Function}
 use Rattle.spec_running.specs.declared.Value.{Value}
 use Rattle.spec_running.specs.declared.Value.TheVariants.{Nil, Bool as Truth, Int}
 use Rattle.spec_calls.specs.Calls.{Argument, Number, Call}

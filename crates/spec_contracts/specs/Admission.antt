@@ -1,8 +1,8 @@
 -- Which contents are admitted, and as what program.
 use Rattle.std.specs.Prelude.{ℕ, List, [], ◌∷◌, Option, Some, None, Result, Ok, Err}
-use Rattle.spec_tokens.specs.declared.Word.{Word}
-use Rattle.spec_tokens.specs.Words.{tokens}
-use Rattle.spec_trees.specs.Program.{Program, Function, Integer, Return, Raises, Post}
+use Rattle.spec_first_tokens.specs.declared.Word.{Word}
+use Rattle.spec_first_tokens.specs.Words.{tokens}
+use Rattle.spec_first_trees.specs.Program.{Program, Function, Integer, Return, Raises, Post}
 use Rattle.spec_contracts.specs.Forms.{Form, form_of}
 use Rattle.spec_contracts.specs.Names.{broken_line}
 

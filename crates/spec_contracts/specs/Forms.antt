@@ -5,13 +5,13 @@
 use Rattle.std.specs.Prelude.{ℕ, ◌-◌, List, [], ◌∷◌, ◌==◌, drop, take, length, nat_eq, Option, Some, None, Result, Ok, Err, codes, if◌then◌else◌}
 use Rattle.std.specs.List.{starts_with, list_any}
 use Rattle.std.specs.Str.{bytes_eq}
-use Rattle.spec_tokens.specs.declared.Mark.TheVariants.{OpenParen, CloseParen, Colon, Arrow, Def, Return, Newline}
-use Rattle.spec_tokens.specs.declared.Word.{Word}
-use Rattle.spec_tokens.specs.declared.Word.TheVariants as word
-use Rattle.spec_tokens.specs.Words.{cut}
-use Rattle.spec_trees.specs.Expr.{Expr}
-use Rattle.spec_grammar.specs.Marks.{mark_at}
-use Rattle.spec_grammar.specs.Reading.{given, ◌>>=◌, expression_of}
+use Rattle.spec_first_tokens.specs.declared.Mark.TheVariants.{OpenParen, CloseParen, Colon, Arrow, Def, Return, Newline}
+use Rattle.spec_first_tokens.specs.declared.Word.{Word}
+use Rattle.spec_first_tokens.specs.declared.Word.TheVariants as word
+use Rattle.spec_first_tokens.specs.Words.{cut}
+use Rattle.spec_first_trees.specs.Expr.{Expr}
+use Rattle.spec_first_grammar.specs.Marks.{mark_at}
+use Rattle.spec_first_grammar.specs.Reading.{given, ◌>>=◌, expression_of}
 
 -- the name that words begin with, and what follows it
 abbrev pub name_at : List Word → Option (List ℕ × List Word)

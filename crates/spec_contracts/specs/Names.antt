@@ -2,7 +2,7 @@
 use Rattle.std.specs.Prelude.{ℕ, Bool, true, not, ◌&&◌, List, [], ◌∷◌, Option, Some, None, codes, if◌then◌else◌}
 use Rattle.std.specs.List.{list_any}
 use Rattle.std.specs.Str.{bytes_eq}
-use Rattle.spec_trees.specs.Expr.{Expr, name, integer, binary, compare, group}
+use Rattle.spec_first_trees.specs.Expr.{Expr, name, integer, binary, compare, group}
 use Rattle.spec_contracts.specs.declared.TheConstants.{BUILTINS}
 use Rattle.spec_contracts.specs.Forms.{Form, Head}
 

@@ -1,12 +1,12 @@
 -- Operations on values (Python 3.12 language reference, "Binary arithmetic operations" and "Value comparisons").
 use Rattle.std.specs.Prelude.{◌^◌, ℤ, pos, negsuc, ◌+ℤ◌, ◌-ℤ◌, ◌*ℤ◌, Bool, true, false, not, Option, Some, None, nat_lt, if◌then◌else◌, int_lt, int_le}
 use Rattle.std.specs.Ordering.{int_eq}
-use Rattle.spec_trees.specs.declared.BinaryOp.{BinaryOp}
-use Rattle.spec_trees.specs.declared.BinaryOp.TheVariants.{Add, Subtract, Multiply}
-use Rattle.spec_trees.specs.declared.CompareOp.{CompareOp}
-use Rattle.spec_trees.specs.declared.CompareOp.TheVariants.{Equal, NotEqual, Less, LessEqual, Greater, GreaterEqual}
-use Rattle.spec_trees.specs.declared.ExcClass.TheVariants.{TypeError}
-use Rattle.spec_trees.specs.declared.LimitKind.TheVariants as limit
+use Rattle.spec_first_trees.specs.declared.BinaryOp.{BinaryOp}
+use Rattle.spec_first_trees.specs.declared.BinaryOp.TheVariants.{Add, Subtract, Multiply}
+use Rattle.spec_first_trees.specs.declared.CompareOp.{CompareOp}
+use Rattle.spec_first_trees.specs.declared.CompareOp.TheVariants.{Equal, NotEqual, Less, LessEqual, Greater, GreaterEqual}
+use Rattle.spec_first_trees.specs.declared.ExcClass.TheVariants.{TypeError}
+use Rattle.spec_first_trees.specs.declared.LimitKind.TheVariants as limit
 use Rattle.spec_running.specs.declared.Value.{Value}
 use Rattle.spec_running.specs.declared.Value.TheVariants.{Nil, Bool as Truth, Int}
 use Rattle.spec_running.specs.declared.Outcome.{Outcome}

@@ -1,9 +1,9 @@
 -- Running, as a recursion on trees (Python 3.12 language reference, "Expressions" and "Simple statements").
 use Rattle.std.specs.Prelude.{ℕ, ◌+◌, ◌-◌, ◌==◌, nat_lt, pos, List, [], ◌∷◌, ◌++◌, Option, Some, None, if◌then◌else◌}
-use Rattle.spec_trees.specs.declared.ExcClass.TheVariants.{UnboundLocalError}
-use Rattle.spec_trees.specs.declared.LimitKind.TheVariants as limit
-use Rattle.spec_trees.specs.Expr.{Expr, name, integer, binary, compare, group}
-use Rattle.spec_trees.specs.Program.{Statement, Numbered, Function, Parameter, Text, Return}
+use Rattle.spec_first_trees.specs.declared.ExcClass.TheVariants.{UnboundLocalError}
+use Rattle.spec_first_trees.specs.declared.LimitKind.TheVariants as limit
+use Rattle.spec_first_trees.specs.Expr.{Expr, name, integer, binary, compare, group}
+use Rattle.spec_first_trees.specs.Program.{Statement, Numbered, Function, Parameter, Text, Return}
 use Rattle.spec_running.specs.declared.Value.{Value}
 use Rattle.spec_running.specs.declared.Value.TheVariants.{Nil, Int}
 use Rattle.spec_running.specs.declared.Outcome.{Outcome}

@@ -3,9 +3,9 @@ use Rattle.std.proofs.Common.{◌≡◌, ℕ, zero, suc, ◌<◌, Bool, true, fa
 use Rattle.std.proofs.lemmas.Bool.{and_parts}
 use Rattle.std.proofs.lemmas.Option.{some_pair_parts}
 use Rattle.std.specs.List.{list_all, slice_get}
-use Rattle.spec_trees.specs.declared.LimitKind.{LimitKind}
-use Rattle.spec_trees.specs.Bounds.{Bounds}
-use Rattle.spec_trees.specs.Program.{Function, Condition}
+use Rattle.spec_first_trees.specs.declared.LimitKind.{LimitKind}
+use Rattle.spec_first_trees.specs.Bounds.{Bounds}
+use Rattle.spec_first_trees.specs.Program.{Function, Condition}
 use Rattle.spec_calls.specs.Calls.{Call, calls}
 use Rattle.spec_verdicts.specs.Breaking.{Fault, broken, limited, is_unmet}
 use Rattle.spec_verdicts.specs.Verdicts.{Error, NotConfirmed, Unmet, Confirmed, with_call, first_of, concluded, verdict_over, verdict}

@@ -4,8 +4,8 @@ use Rattle.std.proofs.lemmas.Bool.Decides.{nat_tests}
 use Rattle.std.specs.List.{list_any}
 use Rattle.xh_outside.specs.Reading.{content_of, read_within, is_due, read_of, next_left}
 use Rattle.xh_outside.specs.declared.errors.ReadError.TheVariants.{Failed, TooLong}
-use Rattle.spec_trees.specs.Bounds.{Bounds}
-use Rattle.spec_trees.specs.Program.{Program}
+use Rattle.spec_first_trees.specs.Bounds.{Bounds}
+use Rattle.spec_first_trees.specs.Program.{Program}
 use Rattle.spec_contracts.specs.Admission.{admit}
 use Rattle.spec_verdicts.specs.Report.{Total, nothing, has_error, report_of, report_of_admission, entry_of, is_failed, targets_total}
 use Rattle.spec_verdicts.specs.Statuses.{IsAdmitted, Passes, Fails, IsRefused, EachTarget, SomeTarget, SomeReadFails}

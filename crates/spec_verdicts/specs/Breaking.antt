@@ -1,10 +1,10 @@
 -- What breaks a condition, and what limits it.
 use Rattle.std.specs.Prelude.{Bool, true, false, [], ◌∷◌, ◌++◌, map, Option, Some, None, if◌then◌else◌}
-use Rattle.spec_trees.specs.declared.ExcClass.{ExcClass}
-use Rattle.spec_trees.specs.declared.LimitKind.{LimitKind}
-use Rattle.spec_trees.specs.Bounds.{Bounds}
-use Rattle.spec_trees.specs.Expr.{Expr}
-use Rattle.spec_trees.specs.Program.{Function, Condition, Raises, Post}
+use Rattle.spec_first_trees.specs.declared.ExcClass.{ExcClass}
+use Rattle.spec_first_trees.specs.declared.LimitKind.{LimitKind}
+use Rattle.spec_first_trees.specs.Bounds.{Bounds}
+use Rattle.spec_first_trees.specs.Expr.{Expr}
+use Rattle.spec_first_trees.specs.Program.{Function, Condition, Raises, Post}
 use Rattle.spec_running.specs.declared.Value.{Value}
 use Rattle.spec_running.specs.declared.Outcome.{Outcome}
 use Rattle.spec_running.specs.declared.Outcome.TheVariants.{Returned, Raised, Limit}

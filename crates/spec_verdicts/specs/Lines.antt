@@ -1,9 +1,9 @@
 -- The lines that are written. A line ends with a line feed.
 use Rattle.std.specs.Prelude.{ℕ, List, [], ◌++◌, codes}
 use Rattle.std.specs.Fmt.{decimal}
-use Rattle.spec_trees.specs.declared.ExcClass.{ExcClass}
-use Rattle.spec_trees.specs.declared.ExcClass.TheVariants.{Exception, ArithmeticError, ZeroDivisionError, LookupError, IndexError, KeyError, ValueError, TypeError, AttributeError, NameError, UnboundLocalError, AssertionError, RuntimeError, NotImplementedError}
-use Rattle.spec_trees.specs.Program.{Function}
+use Rattle.spec_first_trees.specs.declared.ExcClass.{ExcClass}
+use Rattle.spec_first_trees.specs.declared.ExcClass.TheVariants.{Exception, ArithmeticError, ZeroDivisionError, LookupError, IndexError, KeyError, ValueError, TypeError, AttributeError, NameError, UnboundLocalError, AssertionError, RuntimeError, NotImplementedError}
+use Rattle.spec_first_trees.specs.Program.{Function}
 use Rattle.spec_running.specs.declared.Value.{Value}
 use Rattle.spec_running.specs.declared.Value.TheVariants.{Nil, Bool as Truth, Int}
 use Rattle.spec_calls.specs.Calls.{Call}

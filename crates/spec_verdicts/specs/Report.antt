@@ -5,8 +5,8 @@ use Rattle.std.specs.Prelude.{Some, None, ℕ, Bool, true, false, max, List, [],
 use Rattle.xh_outside.specs.declared.errors.ReadError.{ReadError}
 use Rattle.xh_outside.specs.declared.errors.ReadError.TheVariants.{Failed, TooLong, NoMemory}
 use Rattle.xh_outside.specs.Reading.{read_of, next_left}
-use Rattle.spec_trees.specs.Bounds.{Bounds}
-use Rattle.spec_trees.specs.Program.{Program, Function, Condition, Raises, Post}
+use Rattle.spec_first_trees.specs.Bounds.{Bounds}
+use Rattle.spec_first_trees.specs.Program.{Program, Function, Condition, Raises, Post}
 use Rattle.spec_contracts.specs.Admission.{admit}
 use Rattle.spec_verdicts.specs.Verdicts.{Verdict, Error, NotConfirmed, Unmet, Confirmed, verdict}
 use Rattle.spec_verdicts.specs.Lines.{verdict_line, refusal_line, fault_line, usage}

@@ -2,7 +2,7 @@
 use Rattle.std.specs.Prelude.{ℕ, Bool, false, not, length, ◌&&◌, ◌==◌, List, [], ◌∷◌, Option, Some, None, codes, if◌then◌else◌}
 use Rattle.std.specs.List.{list_any}
 use Rattle.std.specs.Str.{bytes_eq}
-use Rattle.spec_trees.specs.Bounds.{Bounds, standard}
+use Rattle.spec_first_trees.specs.Bounds.{Bounds, standard}
 
 -- a check of these files under these bounds
 pub record Settings : Type 0 where

@@ -2,8 +2,8 @@
 use Rattle.std.specs.Prelude.{◌≡◌, ◌⊎◌, ◌≤◌, ◌<◌, ℕ, true, false, ⊤, List, [], ◌∷◌, length, Option, Some, None, Ok, Err}
 use Rattle.std.specs.List.{list_any}
 use Rattle.xh_outside.specs.Reading.{content_of, next_left}
-use Rattle.spec_trees.specs.Bounds.{Bounds}
-use Rattle.spec_trees.specs.Program.{Program}
+use Rattle.spec_first_trees.specs.Bounds.{Bounds}
+use Rattle.spec_first_trees.specs.Program.{Program}
 use Rattle.spec_contracts.specs.Admission.{admit}
 use Rattle.spec_verdicts.specs.Report.{has_error}
 use Rattle.spec_verdicts.specs.declared.TheConstants.{READ_LIMIT}

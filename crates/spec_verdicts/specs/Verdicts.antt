@@ -1,9 +1,9 @@
 -- The verdict of a condition over all calls within the bounds.
 use Rattle.std.specs.Prelude.{Bool, List, [], ◌∷◌, Option, Some, None, if◌then◌else◌}
 use Rattle.std.specs.List.{list_all}
-use Rattle.spec_trees.specs.declared.LimitKind.{LimitKind}
-use Rattle.spec_trees.specs.Bounds.{Bounds}
-use Rattle.spec_trees.specs.Program.{Function, Condition}
+use Rattle.spec_first_trees.specs.declared.LimitKind.{LimitKind}
+use Rattle.spec_first_trees.specs.Bounds.{Bounds}
+use Rattle.spec_first_trees.specs.Program.{Function, Condition}
 use Rattle.spec_calls.specs.Calls.{Call, calls}
 use Rattle.spec_verdicts.specs.Breaking.{Fault, broken, limited, is_unmet}
 

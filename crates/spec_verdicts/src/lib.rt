@@ -3,9 +3,9 @@
 
 ghost use Rattle.std.specs.Prelude.{◌≡◌, ◌⊎◌, ℕ, true, false, List, Option, Some, slice_get};
 ghost use Rattle.std.specs.List.{list_all};
-ghost use Rattle.spec_trees.specs.declared.LimitKind.{LimitKind};
-ghost use Rattle.spec_trees.specs.Bounds.{Bounds};
-ghost use Rattle.spec_trees.specs.Program.{Function, Condition};
+ghost use Rattle.spec_first_trees.specs.declared.LimitKind.{LimitKind};
+ghost use Rattle.spec_first_trees.specs.Bounds.{Bounds};
+ghost use Rattle.spec_first_trees.specs.Program.{Function, Condition};
 ghost use Rattle.spec_calls.specs.Calls.{Call, calls};
 ghost use Rattle.spec_verdicts.specs.Breaking.{Fault, broken, limited, is_unmet};
 ghost use Rattle.spec_verdicts.specs.Verdicts.{Error, NotConfirmed, Unmet, Confirmed, verdict};

@@ -1,6 +1,6 @@
 use Rattle.std.proofs.Common.{ap, ◌∙◌}
 use Rattle.spec_running.specs.Operations.{calculated, compared}
-use Rattle.py_tree.specs.Arena.{node_tree, shown}
+use Rattle.first_tree.specs.Arena.{node_tree, shown}
 use Rattle.crosshair.proofs.Evaluation.{runs_as, group_runs, name_runs, integer_runs, binary_runs, compare_runs}
 use Rattle.crosshair.proofs.evaluator.+evaluator.Goals as goal
 

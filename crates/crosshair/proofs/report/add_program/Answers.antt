@@ -1,4 +1,4 @@
-use Rattle.py_tree.specs.BoundsOf.{bounds_of}
+use Rattle.first_tree.specs.BoundsOf.{bounds_of}
 use Rattle.crosshair.proofs.Texts.{fails_more, text_more}
 use Rattle.crosshair.proofs.report.add_program.Goals as goal
 

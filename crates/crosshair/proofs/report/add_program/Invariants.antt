@@ -1,7 +1,7 @@
 use Rattle.std.proofs.Common.{◌≡◌, ◌++◌, take}
 use Rattle.std.specs.List.{flat_map, list_any}
 use Rattle.spec_verdicts.specs.Report.{function_text, has_error}
-use Rattle.py_tree.specs.BoundsOf.{bounds_of}
+use Rattle.first_tree.specs.BoundsOf.{bounds_of}
 use Rattle.crosshair.specs.Texts.{program_in}
 use Rattle.crosshair.proofs.report.add_program.Given as goal
 

@@ -1,7 +1,7 @@
 use Rattle.std.proofs.Common.{◌≡◌, arith, ap, ◌∙◌, sym, Some}
 use Rattle.std.specs.Prelude.{slice_get}
 use Rattle.std.specs.Option.{option_copied}
-use Rattle.py_tree.specs.BoundsOf.{bounds_of}
+use Rattle.first_tree.specs.BoundsOf.{bounds_of}
 use Rattle.crosshair.proofs.Laws.{ends_passed, some_three, step_on, step_stop}
 use Rattle.crosshair.proofs.run.check_targets.Goals as goal
 

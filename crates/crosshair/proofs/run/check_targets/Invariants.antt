@@ -1,6 +1,6 @@
 use Rattle.std.proofs.Common.{◌≡◌, ◌≤◌, drop, IfSome}
 use Rattle.spec_verdicts.specs.Report.{targets_total}
-use Rattle.py_tree.specs.BoundsOf.{bounds_of}
+use Rattle.first_tree.specs.BoundsOf.{bounds_of}
 use Rattle.crosshair.proofs.Laws.{Going}
 use Rattle.crosshair.proofs.run.check_targets.Given as goal
 

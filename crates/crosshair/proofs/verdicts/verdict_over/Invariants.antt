@@ -1,5 +1,5 @@
 use Rattle.std.proofs.Common.{drop}
-use Rattle.py_tree.specs.BoundsOf.{bounds_of}
+use Rattle.first_tree.specs.BoundsOf.{bounds_of}
 use Rattle.crosshair.specs.Meaning.{function_in, condition_in}
 use Rattle.crosshair.proofs.Tries.{Tried}
 use Rattle.crosshair.proofs.verdicts.verdict_over.Given as goal
