@@ -1,5 +1,5 @@
 -- Literals of an arena that grows.
-use Rattle.std.proofs.Common.{◌≡◌, ℕ, zero, suc, ◌+◌, ◌-◌, ◌<◌, ◌≤◌, Bool, List, [], ◌∷◌, ◌++◌, length, map, drop, get_or, refl, sym, ◌∙◌, ap, append_assoc, length-append, arith}
+use Rattle.std.proofs.Common.{◌≡◌, ℕ, zero, suc, ◌+◌, ◌-◌, ◌<◌, ◌≤◌, Bool, List, [], ◌∷◌, ◌++◌, length, map, take, drop, replicate, get_or, refl, sym, ◌∙◌, ap, append_assoc, length-append, arith}
 use Rattle.std.proofs.lemmas.List.{get_or_push}
 use Rattle.bit_gates.specs.declared.lit.Gate.{Gate}
 use Rattle.bit_gates.specs.declared.lit.Lit.{Lit}
@@ -97,3 +97,14 @@ pub below_drop : (n k : ℕ) (lits : List Lit) → AreBelow n lits → AreBelow 
 below_drop n zero lits b = b
 below_drop n (suc k) [] b = tt
 below_drop n (suc k) (a ∷ lits) b = below_drop n k lits b.1
+
+-- the first of literals of the arena
+pub below_take : (n k : ℕ) (lits : List Lit) → AreBelow n lits → AreBelow n (take k lits)
+below_take n zero lits b = tt
+below_take n (suc k) [] b = tt
+below_take n (suc k) (a ∷ lits) b = (b.0, below_take n k lits b.1)
+
+-- one literal several times
+pub below_replicate : (n k : ℕ) (a : Lit) → a.place < n → AreBelow n (replicate k a)
+below_replicate n zero a h = tt
+below_replicate n (suc k) a h = (h, below_replicate n k a h)

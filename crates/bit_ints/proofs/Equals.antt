@@ -14,28 +14,28 @@ use Rattle.bit_ints.proofs.Sums.{digit, integer-extended}
 use Rattle.bit_ints.proofs.Widths.{values-extended}
 
 -- truth values that imply each other
-same_tests : (p q : Bool) → (p ≡ true → q ≡ true) → (q ≡ true → p ≡ true) → p ≡ q
+pub same_tests : (p q : Bool) → (p ≡ true → q ≡ true) → (q ≡ true → p ≡ true) → p ≡ q
 same_tests true q f g = sym (f refl)
 same_tests false true f g = g refl
 same_tests false false f g = refl
 
 -- from -m to m - 1
-record Within (m : ℕ) (z : ℤ) : Type 0 where
-  low : neg_ℤ (pos m) ≤ℤ z
-  high : z <ℤ pos m
+pub record Within (m : ℕ) (z : ℤ) : Type 0 where
+  pub low : neg_ℤ (pos m) ≤ℤ z
+  pub high : z <ℤ pos m
 
 -- the test implies the bounds
-within_from : (m : ℕ) (z : ℤ) → is_within m z ≡ true → Within m z
+pub within_from : (m : ℕ) (z : ℤ) → is_within m z ≡ true → Within m z
 within_from m (pos n) e = let h = ltb-true n m e in record { low = omega (arith, ints); high = omega (arith, ints) }
 within_from m (negsuc n) e = let h = ltb-true n m e in record { low = omega (arith, ints); high = omega (arith, ints) }
 
 -- the bounds imply the test
-within_to : (m : ℕ) (z : ℤ) → Within m z → is_within m z ≡ true
+pub within_to : (m : ℕ) (z : ℤ) → Within m z → is_within m z ≡ true
 within_to m (pos n) w = lt-ltb n m (omega (arith, ints, w.high))
 within_to m (negsuc n) w = lt-ltb n m (omega (arith, ints, w.low))
 
 -- a digit in front doubles the bounds
-within_step : (b : Bool) (m n : ℕ) (z : ℤ) → n ≡ 2 * m → is_within m z ≡ is_within n (digit b +ℤ pos 2 *ℤ z)
+pub within_step : (b : Bool) (m n : ℕ) (z : ℤ) → n ≡ 2 * m → is_within m z ≡ is_within n (digit b +ℤ pos 2 *ℤ z)
 within_step true m n z e = same_tests _ _
     (λ p. let w = within_from m z p in within_to n _ (record { low = omega (arith, ints, w.low); high = omega (arith, ints, w.high) }))
     (λ p. let w = within_from n _ p in within_to m z (record { low = omega (arith, ints, w.low); high = omega (arith, ints, w.high) }))
@@ -105,7 +105,7 @@ flat_step false true z w = same_tests _ _ (λ p. absurd (true≢false (sym p)))
     (λ p. let r = within_from 1 (digit false +ℤ pos 2 *ℤ z) p in let e = w.is in absurd (omega (arith, ints, r.low, r.high)))
 
 -- a power of 2 is not 0
-power_positive : (k : ℕ) → 0 < 2 ^ k
+pub power_positive : (k : ℕ) → 0 < 2 ^ k
 power_positive zero = omega arith
 power_positive (suc k) = omega (arith, power_positive k)
 

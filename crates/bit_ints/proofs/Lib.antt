@@ -6,3 +6,8 @@ pub mod Widths
 pub mod Equals
 pub mod Rows
 pub mod Halves
+pub mod Places
+pub mod Flips
+pub mod Narrowing
+pub mod Raising
+pub mod Dividing

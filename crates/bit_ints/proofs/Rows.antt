@@ -26,7 +26,7 @@ none : (whole left right : ℤ) → whole ≡ pos 0 → left ≡ pos 0 → right
 none whole left right e f g = omega (arith, ints)
 
 -- a product with a sum
-times-sum : (x a b : ℤ) → x *ℤ (a +ℤ b) ≡ x *ℤ a +ℤ x *ℤ b
+pub times-sum : (x a b : ℤ) → x *ℤ (a +ℤ b) ≡ x *ℤ a +ℤ x *ℤ b
 times-sum (pos zero) a b = none _ _ _ (zero-*ℤ (a +ℤ b)) (zero-*ℤ a) (zero-*ℤ b)
 times-sum (pos (suc n)) a b = one_more _ _ _ a b _ _ _ (suc_ℤ-*ℤ (pos n) (a +ℤ b)) (suc_ℤ-*ℤ (pos n) a) (suc_ℤ-*ℤ (pos n) b) (times-sum (pos n) a b)
 times-sum (negsuc zero) a b = one_less _ _ _ a b _ _ _ (pred_ℤ-*ℤ (pos 0) (a +ℤ b)) (pred_ℤ-*ℤ (pos 0) a) (pred_ℤ-*ℤ (pos 0) b) (none _ _ _ (zero-*ℤ (a +ℤ b)) (zero-*ℤ a) (zero-*ℤ b))
@@ -43,7 +43,7 @@ times-digit true x = *ℤ-one x
 times-digit false x = *ℤ-zero x
 
 -- twice an integer
-twice : (y : ℤ) → pos 2 *ℤ y ≡ y +ℤ y
+pub twice : (y : ℤ) → pos 2 *ℤ y ≡ y +ℤ y
 twice y = omega (arith, ints)
 
 -- sums of the parts of a product
@@ -51,7 +51,7 @@ parts : (whole first second row product : ℤ) → whole ≡ first +ℤ second �
 parts whole first second row product e f g = omega (arith, ints)
 
 -- a product with a digit and twice what follows
-times-cons : (b : Bool) (x y : ℤ) → x *ℤ (digit b +ℤ pos 2 *ℤ y) ≡ masked b x +ℤ pos 2 *ℤ (x *ℤ y)
+pub times-cons : (b : Bool) (x y : ℤ) → x *ℤ (digit b +ℤ pos 2 *ℤ y) ≡ masked b x +ℤ pos 2 *ℤ (x *ℤ y)
 times-cons b x y = parts _ _ _ (masked b x) (x *ℤ y) (times-sum x (digit b) (pos 2 *ℤ y)) (times-digit b x) (ap (λ z. x *ℤ z) (twice y) ∙ times-sum x y y)
 
 -- a row moves from what is left to what is added up
@@ -65,7 +65,7 @@ sign_row true x rest = ap (λ z. rest -ℤ z) (sym (*ℤ-one x)) ∙ ap (λ z. r
 sign_row false x rest = let e = *ℤ-zero x in rw e (omega (arith, ints))
 
 -- a digit in front of others
-integer-cons : (b : Bool) (bs : List Bool) → 1 ≤ length bs → integer (b ∷ bs) ≡ digit b +ℤ pos 2 *ℤ integer bs
+pub integer-cons : (b : Bool) (bs : List Bool) → 1 ≤ length bs → integer (b ∷ bs) ≡ digit b +ℤ pos 2 *ℤ integer bs
 integer-cons b [] h = absurd (omega arith)
 integer-cons b (c ∷ bs) h = refl
 
@@ -81,7 +81,7 @@ again_cons s [] h = absurd (omega arith)
 again_cons s (x ∷ xs) h = refl
 
 -- a single digit n times more
-more_signs : (k : ℕ) (s : Bool) → extended_by (suc k) (s ∷ []) ≡ s ∷ extended_by k (s ∷ [])
+pub more_signs : (k : ℕ) (s : Bool) → extended_by (suc k) (s ∷ []) ≡ s ∷ extended_by k (s ∷ [])
 more_signs zero s = refl
 more_signs (suc k) s =
     let size = extended-length k (s ∷ []) (omega arith) in

@@ -1,11 +1,11 @@
 -- One step of each loop over digits.
-use Rattle.std.proofs.Common.{◌≡◌, ℕ, ◌+◌, ◌<◌, ◌≤◌, ◌&&◌, Bool, true, false, not, List, [], ◌∷◌, ◌++◌, length, map, take, drop, get_or, refl, sym, ◌∙◌, append_assoc}
-use Rattle.std.proofs.lemmas.List.{length-map, map-append, get_or-map, drop_more, drop_all, take_more}
+use Rattle.std.proofs.Common.{◌≡◌, ℕ, ◌+◌, ◌<◌, ◌≤◌, ◌&&◌, Bool, true, false, not, List, [], ◌∷◌, ◌++◌, length, drop, get_or, refl, sym, ◌∙◌, append_assoc, length-drop, arith}
+use Rattle.std.proofs.lemmas.List.{length-map, map-append, get_or-map, drop_more, drop_all}
 use Rattle.bit_gates.specs.declared.lit.Gate.{Gate}
 use Rattle.bit_gates.specs.declared.lit.Lit.{Lit}
 use Rattle.bit_gates.specs.Formulas.{Extends, value_of}
 use Rattle.bit_gates.proofs.Arenas.{value_kept}
-use Rattle.bit_ints.specs.Integers.{AreBelow, values, zip_with, xor, most, sum_bits, are_same}
+use Rattle.bit_ints.specs.Integers.{AreBelow, values, zip_with, xor, most, sign, sum_bits, are_same}
 use Rattle.bit_ints.proofs.Digits.{below_at, values_kept}
 
 -- a digit of an older arena
@@ -57,7 +57,7 @@ and_true true = refl
 and_true false = refl
 
 -- no digits are the same as any
-same_short : (xs : List Bool) → are_same xs [] ≡ true
+pub same_short : (xs : List Bool) → are_same xs [] ≡ true
 same_short [] = refl
 same_short (x ∷ xs) = refl
 
@@ -68,7 +68,38 @@ same_end g0 bits xs ys i all z h inv =
     let short : (all && true) ≡ z = rw (none, same_short (drop i (values g0 bits xs))) at inv in
     sym (and_true all) ∙ short
 
--- one negated digit more
-pub not_turn : (gates : List Gate) (bits : List Bool) (lits digits more : List Lit) (i : ℕ) (d r : Lit) → i < length lits → more ≡ digits ++ r ∷ [] → value_of gates bits r ≡ not (value_of gates bits (get_or lits i d)) → values gates bits digits ≡ map not (values gates bits (take i lits)) → values gates bits more ≡ map not (values gates bits (take (i + 1) lits))
-not_turn gates bits lits digits more i d r h is v inv =
-    rw (is, map-append (value_of gates bits) digits (r ∷ []), take_more lits i d h, map-append (value_of gates bits) (take i lits) (get_or lits i d ∷ []), map-append not (values gates bits (take i lits)) (value_of gates bits (get_or lits i d) ∷ []), v, inv) refl
+-- the sign of a sum of digits of which there are more
+sign_cons : (c x y : Bool) (xs ys : List Bool) → 1 ≤ length xs → 1 ≤ length ys → sign (sum_bits c (x ∷ xs) (y ∷ ys)) ≡ sign (sum_bits (most x y c) xs ys)
+sign_cons c x y [] ys h k = absurd (omega arith)
+sign_cons c x y (x' ∷ xs) [] h k = absurd (omega arith)
+sign_cons c x y (x' ∷ xs) (y' ∷ ys) h k = refl
+
+-- one digit more of the sign of a sum
+pub sign_turn : (g0 g1 g2 : List Gate) (bits : List Bool) (xs ys : List Lit) (i : ℕ) (d e c next : Lit) (z : Bool) → Extends g0 g1 → AreBelow (length g0) xs → AreBelow (length g0) ys → i + 1 < length xs → i + 1 < length ys → value_of g2 bits next ≡ most (value_of g1 bits (get_or xs i d)) (value_of g1 bits (get_or ys i e)) (value_of g1 bits c) → sign (sum_bits (value_of g1 bits c) (drop i (values g0 bits xs)) (drop i (values g0 bits ys))) ≡ z → sign (sum_bits (value_of g2 bits next) (drop (i + 1) (values g0 bits xs)) (drop (i + 1) (values g0 bits ys))) ≡ z
+sign_turn g0 g1 g2 bits xs ys i d e c next z e0 bx by hx hy v inv =
+    let size_x = length-map xs (value_of g0 bits) in
+    let size_y = length-map ys (value_of g0 bits) in
+    let left_x = length-drop (i + 1) (values g0 bits xs) in
+    let left_y = length-drop (i + 1) (values g0 bits ys) in
+    let x = digit_kept g0 g1 bits xs i d e0 bx (omega arith) in
+    let y = digit_kept g0 g1 bits ys i e e0 by (omega arith) in
+    let before = rw (left_more g0 bits xs i (omega arith), left_more g0 bits ys i (omega arith)) at inv in
+    let step = sign_cons (value_of g1 bits c) (get_or (values g0 bits xs) i false) (get_or (values g0 bits ys) i false) (drop (i + 1) (values g0 bits xs)) (drop (i + 1) (values g0 bits ys)) (omega arith) (omega arith) in
+    rw (v, x, y) (sym step ∙ before)
+
+-- the end of the sign of a sum
+pub sign_end : (g0 g1 : List Gate) (bits : List Bool) (xs ys : List Lit) (i : ℕ) (d e c : Lit) (z : Bool) → Extends g0 g1 → AreBelow (length g0) xs → AreBelow (length g0) ys → i + 1 ≡ length xs → i + 1 ≡ length ys → sign (sum_bits (value_of g1 bits c) (drop i (values g0 bits xs)) (drop i (values g0 bits ys))) ≡ z → xor (xor (value_of g1 bits (get_or xs i d)) (value_of g1 bits (get_or ys i e))) (value_of g1 bits c) ≡ z
+sign_end g0 g1 bits xs ys i d e c z e0 bx by hx hy inv =
+    let size_x = length-map xs (value_of g0 bits) in
+    let size_y = length-map ys (value_of g0 bits) in
+    let none_x : drop (i + 1) (values g0 bits xs) ≡ [] = drop_all (i + 1) (values g0 bits xs) (omega arith) in
+    let x = digit_kept g0 g1 bits xs i d e0 bx (omega arith) in
+    let y = digit_kept g0 g1 bits ys i e e0 by (omega arith) in
+    let before = rw (left_more g0 bits xs i (omega arith), left_more g0 bits ys i (omega arith), none_x) at inv in
+    rw (x, y) before
+
+-- a sum of digits has digits
+pub sum_some : (c : Bool) (xs ys : List Bool) → 1 ≤ length xs → 1 ≤ length ys → 1 ≤ length (sum_bits c xs ys)
+sum_some c [] ys h k = absurd (omega arith)
+sum_some c (x ∷ xs) [] h k = absurd (omega arith)
+sum_some c (x ∷ xs) (y ∷ ys) h k = omega arith

@@ -1,12 +1,11 @@
 -- Digits that are extended to one length.
-use Rattle.std.proofs.Common.{◌≡◌, ℕ, suc, ◌+◌, ◌-◌, ◌≤◌, max, Bool, true, false, not, List, length, map, ◌+ℤ◌, ◌-ℤ◌, refl, ◌∙◌, arith}
-use Rattle.std.proofs.lemmas.Int.{ints}
+use Rattle.std.proofs.Common.{◌≡◌, ℕ, suc, ◌+◌, ◌-◌, ◌≤◌, max, Bool, List, length, ◌+ℤ◌, refl, arith}
 use Rattle.std.proofs.lemmas.List.{length-map}
 use Rattle.bit_gates.specs.declared.lit.Gate.{Gate}
 use Rattle.bit_gates.specs.declared.lit.Lit.{Lit}
 use Rattle.bit_gates.specs.Formulas.{value_of}
 use Rattle.bit_ints.specs.Integers.{integer, values, extended_by, sum_bits, zip_with, bitwise}
-use Rattle.bit_ints.proofs.Sums.{digit, integer-sum, integer-extended, integer-not}
+use Rattle.bit_ints.proofs.Sums.{digit, integer-sum, integer-extended}
 use Rattle.bit_ints.proofs.Digits.{extended-map, extended-length}
 
 -- the truth values of extended literals
@@ -27,27 +26,15 @@ sum_of c k m xs ys e h h' =
     let ly = extended-length m ys h' in
     rw (integer-sum c (extended_by k xs) (extended_by m ys) (omega arith) (omega arith), integer-extended k xs, integer-extended m ys) refl
 
--- without a carry
-pub plain_sum : (n : ℕ) (gates : List Gate) (bits : List Bool) (a b xs ys : List Lit) → n ≡ max (length a) (length b) → 1 ≤ length a → 1 ≤ length b → xs ≡ extended_by (n + 1 - length a) a → ys ≡ extended_by (n + 1 - length b) b → integer (sum_bits false (values gates bits xs) (values gates bits ys)) ≡ integer (values gates bits a) +ℤ integer (values gates bits b)
-plain_sum n gates bits a b xs ys e h h' is is' =
+-- the same for literals that are extended to one length
+pub carried_sum : (n : ℕ) (carry : Bool) (gates : List Gate) (bits : List Bool) (a b xs ys : List Lit) → n ≡ max (length a) (length b) → 1 ≤ length a → 1 ≤ length b → xs ≡ extended_by (n + 1 - length a) a → ys ≡ extended_by (n + 1 - length b) b → integer (sum_bits carry (values gates bits xs) (values gates bits ys)) ≡ integer (values gates bits a) +ℤ integer (values gates bits b) +ℤ digit carry
+carried_sum n carry gates bits a b xs ys e h h' is is' =
     let la : length (values gates bits a) ≡ length a = length-map a (value_of gates bits) in
     let lb : length (values gates bits b) ≡ length b = length-map b (value_of gates bits) in
     let x = values-extended gates bits (n + 1 - length a) (suc (n - length a)) a xs is (omega arith) in
     let y = values-extended gates bits (n + 1 - length b) (suc (n - length b)) b ys is' (omega arith) in
-    let s = sum_of false (n - length a) (n - length b) (values gates bits a) (values gates bits b) (omega arith) (omega arith) (omega arith) in
-    rw (x, y) (s ∙ omega (arith, ints))
-
--- with the second negated and a carry
-pub difference : (n : ℕ) (gates : List Gate) (bits : List Bool) (a b xs ys nots : List Lit) → n ≡ max (length a) (length b) → 1 ≤ length a → 1 ≤ length b → xs ≡ extended_by (n + 1 - length a) a → ys ≡ extended_by (n + 1 - length b) b → values gates bits nots ≡ map not (values gates bits ys) → integer (sum_bits true (values gates bits xs) (values gates bits nots)) ≡ integer (values gates bits a) -ℤ integer (values gates bits b)
-difference n gates bits a b xs ys nots e h h' is is' negated =
-    let la : length (values gates bits a) ≡ length a = length-map a (value_of gates bits) in
-    let lb : length (values gates bits b) ≡ length b = length-map b (value_of gates bits) in
-    let ln : length (map not (values gates bits b)) ≡ length (values gates bits b) = length-map (values gates bits b) not in
-    let x = values-extended gates bits (n + 1 - length a) (suc (n - length a)) a xs is (omega arith) in
-    let y = values-extended gates bits (n + 1 - length b) (suc (n - length b)) b ys is' (omega arith) in
-    let s = sum_of true (n - length a) (n - length b) (values gates bits a) (map not (values gates bits b)) (omega arith) (omega arith) (omega arith) in
-    let m = integer-not (values gates bits b) (omega arith) in
-    rw (x, negated, y, extended-map not (suc (n - length b)) (values gates bits b)) (s ∙ omega (arith, ints))
+    let s = sum_of carry (n - length a) (n - length b) (values gates bits a) (values gates bits b) (omega arith) (omega arith) (omega arith) in
+    rw (x, y) s
 
 -- digit by digit
 pub widened_both : (f : Bool → Bool → Bool) (n : ℕ) (gates : List Gate) (bits : List Bool) (a b xs ys : List Lit) → n ≡ max (length a) (length b) → xs ≡ extended_by (n - length a) a → ys ≡ extended_by (n - length b) b → zip_with f (values gates bits xs) (values gates bits ys) ≡ bitwise f (values gates bits a) (values gates bits b)

@@ -36,6 +36,23 @@ pub(crate) fn xor(g: &mut Gates, a: Lit, b: Lit) -> Result<Lit, NoMemory>
     Ok(one)
 }
 
+/// The literal that is true where two of three are.
+pub(crate) fn majority(g: &mut Gates, a: Lit, b: Lit, c: Lit) -> Result<Lit, NoMemory>
+    requires left { a.place < length g.old.gates }
+    requires right { b.place < length g.old.gates }
+    requires third { c.place < length g.old.gates }
+    ensures below { IfOk result (λ d. d.place < length g.new.gates) }
+    ensures value { IfOk result (λ d. (bits : List Bool) → value_of g.new.gates bits d ≡ most (value_of g.old.gates bits a) (value_of g.old.gates bits b) (value_of g.old.gates bits c)) }
+    ensures grown { Extends g.old.gates g.new.gates }
+    ensures inputs { g.new.inputs ≡ g.old.inputs }
+{
+    let both = g.and(a, b)?;
+    let either = or(g, a, b)?;
+    let carried = g.and(either, c)?;
+    let two = or(g, both, carried)?;
+    Ok(two)
+}
+
 /// The digit of a sum at a place and the next carry.
 pub(crate) fn full_adder(g: &mut Gates, a: Lit, b: Lit, carry: Lit) -> Result<(Lit, Lit), NoMemory>
     requires left { a.place < length g.old.gates }

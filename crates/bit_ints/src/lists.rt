@@ -1,9 +1,9 @@
-ghost use Rattle.std.specs.Prelude.{◌≡◌, ◌<◌, ◌≤◌, ◌-◌, Bool, List, length, map, not, IfOk};
+ghost use Rattle.std.specs.Prelude.{◌≡◌, ◌<◌, ◌≤◌, ◌-◌, Bool, List, length, IfOk};
 ghost use Rattle.bit_gates.specs.Formulas.{Extends, value_of};
-ghost use Rattle.bit_ints.specs.Integers.{AreBelow, values, are_same, extended_by, sum_bits, zip_with};
+ghost use Rattle.bit_ints.specs.Integers.{AreBelow, values, are_same, extended_by, sign, sum_bits, zip_with};
 ghost use Rattle.bit_ints.specs.Operations.{meaning};
 
-use crate::digit::{full_adder, or, xor};
+use crate::digit::{full_adder, majority, or, xor};
 use bit_gates::{Gates, Lit};
 use std::alloc::Global;
 use xh_outside::NoMemory;
@@ -99,18 +99,31 @@ pub(crate) fn summed(
     Ok(digits)
 }
 
-/// The negated digits.
-pub(crate) fn negated(alloc: Global, g: &Gates, lits: &[Lit]) -> Result<Vec<Lit>, NoMemory>
-    requires below { AreBelow (length g.now.gates) lits.now }
-    ensures length { IfOk result (λ r. length r.items ≡ length lits.now) }
-    ensures below { IfOk result (λ r. AreBelow (length g.now.gates) r.items) }
-    ensures value { IfOk result (λ r. (bits : List Bool) → values g.now.gates bits r.items ≡ map not (values g.now.gates bits lits.now)) }
+/// The last digit of a sum with a carry, which is its sign.
+pub(crate) fn sum_sign(
+    g: &mut Gates,
+    xs: &[Lit],
+    ys: &[Lit],
+    mut carry: Lit,
+) -> Result<Lit, NoMemory>
+    requires same { length xs.now ≡ length ys.now }
+    requires some { 1 ≤ length xs.now }
+    requires left { AreBelow (length g.old.gates) xs.now }
+    requires right { AreBelow (length g.old.gates) ys.now }
+    requires carry { carry.place < length g.old.gates }
+    ensures below { IfOk result (λ r. r.place < length g.new.gates) }
+    ensures value { IfOk result (λ r. (bits : List Bool) → value_of g.new.gates bits r ≡ sign (sum_bits (value_of g.old.gates bits carry) (values g.old.gates bits xs.now) (values g.old.gates bits ys.now))) }
+    ensures grown { Extends g.old.gates g.new.gates }
+    ensures inputs { g.new.inputs ≡ g.old.inputs }
 {
-    let mut digits = Vec::new(alloc);
-    for i in 0..lits.len() {
-        digits.push(g.not(lits[i]))?;
+    let last = xs.len() - 1;
+    for i in 0..last {
+        let next = majority(g, xs[i], ys[i], carry)?;
+        carry = next;
     }
-    Ok(digits)
+    let half = xor(g, xs[last], ys[last])?;
+    let digit = xor(g, half, carry)?;
+    Ok(digit)
 }
 
 /// The literal that is true where the digits are the same, as far as the second list goes.

@@ -1,17 +1,19 @@
-ghost use Rattle.std.specs.Prelude.{◌≡◌, ◌<◌, ◌≤◌, ◌^◌, ◌+◌, max, ◌&&◌, ◌||◌, ◌+ℤ◌, ◌-ℤ◌, Bool, List, length, int_lt, IfOk};
+ghost use Rattle.std.specs.Prelude.{◌≡◌, ℕ, ◌<◌, ◌≤◌, ◌^◌, ◌+◌, max, ◌&&◌, ◌||◌, ◌+ℤ◌, ◌-ℤ◌, Bool, List, length, int_lt, pos, if◌then◌else◌, IfOk};
 ghost use Rattle.std.specs.Ordering.{int_eq};
 ghost use Rattle.bit_gates.specs.Formulas.{Extends, value_of};
+ghost use Rattle.bit_ints.specs.Halving.{digit};
 ghost use Rattle.bit_ints.specs.Integers.{AreBelow, values, integer_of, bitwise, xor, is_within};
 ghost use Rattle.bit_ints.specs.Operations.{meaning};
 
 use crate::BitInt;
-use crate::lists::{Operation, combined, extended, negated, same, summed};
+use crate::lists::{Operation, combined, extended, same, sum_sign, summed};
+use crate::signs::flipped_where;
 use bit_gates::{Gates, Lit};
 use std::alloc::Global;
 use xh_outside::NoMemory;
 
 /// An operation digit by digit.
-fn digit_by_digit(
+pub(crate) fn digit_by_digit(
     alloc: Global,
     g: &mut Gates,
     operation: Operation,
@@ -20,9 +22,11 @@ fn digit_by_digit(
 ) -> Result<BitInt, NoMemory>
     requires left { AreBelow (length g.old.gates) a.now }
     requires right { AreBelow (length g.old.gates) b.now }
+    ensures some { IfOk result (λ _. 1 ≤ length a.now) }
     ensures width { IfOk result (λ n. length n ≡ max (length a.now) (length b.now)) }
     ensures below { IfOk result (λ n. AreBelow (length g.new.gates) n) }
     ensures value { IfOk result (λ n. (bits : List Bool) → values g.new.gates bits n ≡ bitwise (meaning operation) (values g.old.gates bits a.now) (values g.old.gates bits b.now)) }
+    ensures digits { IfOk result (λ r. (bits : List Bool) (n : ℕ) → digit n (integer_of g.new.gates bits r) ≡ meaning operation (digit n (integer_of g.old.gates bits a.now)) (digit n (integer_of g.old.gates bits b.now))) }
     ensures grown { Extends g.old.gates g.new.gates }
     ensures inputs { g.new.inputs ≡ g.old.inputs }
 {
@@ -33,7 +37,7 @@ fn digit_by_digit(
     Ok(BitInt::from_vec(digits))
 }
 
-/// The conjunction, digit by digit.
+/// The conjunction of each digit, in two's complement without end.
 pub fn bit_and(alloc: Global, g: &mut Gates, a: &BitInt, b: &BitInt) -> Result<BitInt, NoMemory>
     requires left { AreBelow (length g.old.gates) a.now }
     requires right { AreBelow (length g.old.gates) b.now }
@@ -41,14 +45,14 @@ pub fn bit_and(alloc: Global, g: &mut Gates, a: &BitInt, b: &BitInt) -> Result<B
     requires right_few { length b.now ≤ 130 }
     ensures width { IfOk result (λ n. length n ≡ max (length a.now) (length b.now)) }
     ensures below { IfOk result (λ n. AreBelow (length g.new.gates) n) }
-    ensures value { IfOk result (λ n. (bits : List Bool) → values g.new.gates bits n ≡ bitwise ◌&&◌ (values g.old.gates bits a.now) (values g.old.gates bits b.now)) }
+    ensures digits { IfOk result (λ r. (bits : List Bool) (n : ℕ) → digit n (integer_of g.new.gates bits r) ≡ (digit n (integer_of g.old.gates bits a.now) && digit n (integer_of g.old.gates bits b.now))) }
     ensures grown { Extends g.old.gates g.new.gates }
     ensures inputs { g.new.inputs ≡ g.old.inputs }
 {
     digit_by_digit(alloc, g, Operation::And, a, b)
 }
 
-/// The disjunction, digit by digit.
+/// The disjunction of each digit, in two's complement without end.
 pub fn bit_or(alloc: Global, g: &mut Gates, a: &BitInt, b: &BitInt) -> Result<BitInt, NoMemory>
     requires left { AreBelow (length g.old.gates) a.now }
     requires right { AreBelow (length g.old.gates) b.now }
@@ -56,14 +60,14 @@ pub fn bit_or(alloc: Global, g: &mut Gates, a: &BitInt, b: &BitInt) -> Result<Bi
     requires right_few { length b.now ≤ 130 }
     ensures width { IfOk result (λ n. length n ≡ max (length a.now) (length b.now)) }
     ensures below { IfOk result (λ n. AreBelow (length g.new.gates) n) }
-    ensures value { IfOk result (λ n. (bits : List Bool) → values g.new.gates bits n ≡ bitwise ◌||◌ (values g.old.gates bits a.now) (values g.old.gates bits b.now)) }
+    ensures digits { IfOk result (λ r. (bits : List Bool) (n : ℕ) → digit n (integer_of g.new.gates bits r) ≡ (digit n (integer_of g.old.gates bits a.now) || digit n (integer_of g.old.gates bits b.now))) }
     ensures grown { Extends g.old.gates g.new.gates }
     ensures inputs { g.new.inputs ≡ g.old.inputs }
 {
     digit_by_digit(alloc, g, Operation::Or, a, b)
 }
 
-/// The exclusive disjunction, digit by digit.
+/// The exclusive disjunction of each digit, in two's complement without end.
 pub fn bit_xor(alloc: Global, g: &mut Gates, a: &BitInt, b: &BitInt) -> Result<BitInt, NoMemory>
     requires left { AreBelow (length g.old.gates) a.now }
     requires right { AreBelow (length g.old.gates) b.now }
@@ -71,11 +75,37 @@ pub fn bit_xor(alloc: Global, g: &mut Gates, a: &BitInt, b: &BitInt) -> Result<B
     requires right_few { length b.now ≤ 130 }
     ensures width { IfOk result (λ n. length n ≡ max (length a.now) (length b.now)) }
     ensures below { IfOk result (λ n. AreBelow (length g.new.gates) n) }
-    ensures value { IfOk result (λ n. (bits : List Bool) → values g.new.gates bits n ≡ bitwise xor (values g.old.gates bits a.now) (values g.old.gates bits b.now)) }
+    ensures digits { IfOk result (λ r. (bits : List Bool) (n : ℕ) → digit n (integer_of g.new.gates bits r) ≡ xor (digit n (integer_of g.old.gates bits a.now)) (digit n (integer_of g.old.gates bits b.now))) }
     ensures grown { Extends g.old.gates g.new.gates }
     ensures inputs { g.new.inputs ≡ g.old.inputs }
 {
     digit_by_digit(alloc, g, Operation::Xor, a, b)
+}
+
+/// The sum of two integers and a digit, one digit wider than the longer integer.
+pub(crate) fn sum_with_carry(
+    alloc: Global,
+    g: &mut Gates,
+    a: &BitInt,
+    b: &BitInt,
+    carry: Lit,
+) -> Result<BitInt, NoMemory>
+    requires left { AreBelow (length g.old.gates) a.now }
+    requires right { AreBelow (length g.old.gates) b.now }
+    requires carry { carry.place < length g.old.gates }
+    requires left_few { length a.now ≤ 263 }
+    requires right_few { length b.now ≤ 263 }
+    ensures width { IfOk result (λ n. length n ≡ max (length a.now) (length b.now) + 1) }
+    ensures below { IfOk result (λ n. AreBelow (length g.new.gates) n) }
+    ensures value { IfOk result (λ n. (bits : List Bool) → integer_of g.new.gates bits n ≡ integer_of g.old.gates bits a.now +ℤ integer_of g.old.gates bits b.now +ℤ (if value_of g.old.gates bits carry then pos 1 else pos 0)) }
+    ensures grown { Extends g.old.gates g.new.gates }
+    ensures inputs { g.new.inputs ≡ g.old.inputs }
+{
+    let n = a.len().max(b.len()) + 1;
+    let xs = extended(alloc, a.digits(), n)?;
+    let ys = extended(alloc, b.digits(), n)?;
+    let digits = summed(alloc, g, &xs, &ys, carry)?;
+    Ok(BitInt::from_vec(digits))
 }
 
 /// The sum, one digit wider than the longer operand.
@@ -90,33 +120,50 @@ pub fn add(alloc: Global, g: &mut Gates, a: &BitInt, b: &BitInt) -> Result<BitIn
     ensures grown { Extends g.old.gates g.new.gates }
     ensures inputs { g.new.inputs ≡ g.old.inputs }
 {
-    let n = a.len().max(b.len()) + 1;
-    let xs = extended(alloc, a.digits(), n)?;
-    let ys = extended(alloc, b.digits(), n)?;
     let carry = g.constant(false);
-    let digits = summed(alloc, g, &xs, &ys, carry)?;
-    Ok(BitInt::from_vec(digits))
+    let sum = sum_with_carry(alloc, g, a, b, carry)?;
+    Ok(sum)
 }
 
 /// The difference, one digit wider than the longer operand.
 pub fn sub(alloc: Global, g: &mut Gates, a: &BitInt, b: &BitInt) -> Result<BitInt, NoMemory>
     requires left { AreBelow (length g.old.gates) a.now }
     requires right { AreBelow (length g.old.gates) b.now }
-    requires left_few { length a.now ≤ 130 }
-    requires right_few { length b.now ≤ 130 }
+    requires left_few { length a.now ≤ 263 }
+    requires right_few { length b.now ≤ 263 }
     ensures width { IfOk result (λ n. length n ≡ max (length a.now) (length b.now) + 1) }
     ensures below { IfOk result (λ n. AreBelow (length g.new.gates) n) }
     ensures value { IfOk result (λ n. (bits : List Bool) → integer_of g.new.gates bits n ≡ integer_of g.old.gates bits a.now -ℤ integer_of g.old.gates bits b.now) }
     ensures grown { Extends g.old.gates g.new.gates }
     ensures inputs { g.new.inputs ≡ g.old.inputs }
 {
+    let carry = g.constant(true);
+    let flipped = flipped_where(alloc, g, b, carry)?;
+    let difference = sum_with_carry(alloc, g, a, &flipped, carry)?;
+    Ok(difference)
+}
+
+/// Whether the sum of two integers and a digit is negative.
+fn sum_is_negative(
+    alloc: Global,
+    g: &mut Gates,
+    a: &BitInt,
+    b: &BitInt,
+    carry: Lit,
+) -> Result<Lit, NoMemory>
+    requires left { AreBelow (length g.old.gates) a.now }
+    requires right { AreBelow (length g.old.gates) b.now }
+    requires carry { carry.place < length g.old.gates }
+    ensures below { IfOk result (λ c. c.place < length g.new.gates) }
+    ensures value { IfOk result (λ c. (bits : List Bool) → value_of g.new.gates bits c ≡ int_lt (integer_of g.old.gates bits a.now +ℤ integer_of g.old.gates bits b.now +ℤ (if value_of g.old.gates bits carry then pos 1 else pos 0)) (pos 0)) }
+    ensures grown { Extends g.old.gates g.new.gates }
+    ensures inputs { g.new.inputs ≡ g.old.inputs }
+{
     let n = a.len().max(b.len()) + 1;
     let xs = extended(alloc, a.digits(), n)?;
     let ys = extended(alloc, b.digits(), n)?;
-    let negated_ys = negated(alloc, g, &ys)?;
-    let carry = g.constant(true);
-    let digits = summed(alloc, g, &xs, &negated_ys, carry)?;
-    Ok(BitInt::from_vec(digits))
+    let sign = sum_sign(g, &xs, &ys, carry)?;
+    Ok(sign)
 }
 
 /// Whether a is less than b.
@@ -130,9 +177,10 @@ pub fn lt(alloc: Global, g: &mut Gates, a: &BitInt, b: &BitInt) -> Result<Lit, N
     ensures grown { Extends g.old.gates g.new.gates }
     ensures inputs { g.new.inputs ≡ g.old.inputs }
 {
-    let difference = sub(alloc, g, a, b)?;
-    let sign = difference.lit(difference.len() - 1);
-    Ok(sign)
+    let carry = g.constant(true);
+    let flipped = flipped_where(alloc, g, b, carry)?;
+    let less = sum_is_negative(alloc, g, a, &flipped, carry)?;
+    Ok(less)
 }
 
 /// Whether they are equal.

@@ -3,13 +3,14 @@ ghost use Rattle.bit_gates.specs.Formulas.{Extends, value_of};
 ghost use Rattle.bit_ints.specs.Integers.{AreBelow, integer_of};
 
 use crate::BitInt;
-use crate::ops::{add, bit_and, sub};
+use crate::lists::Operation;
+use crate::ops::{add, digit_by_digit, sub};
 use bit_gates::{Gates, Lit};
 use std::alloc::Global;
 use xh_outside::NoMemory;
 
 /// The integer where the literal is true, and else 0.
-fn masked(alloc: Global, g: &mut Gates, a: &BitInt, by: Lit) -> Result<BitInt, NoMemory>
+pub(crate) fn masked(alloc: Global, g: &mut Gates, a: &BitInt, by: Lit) -> Result<BitInt, NoMemory>
     requires left { AreBelow (length g.old.gates) a.now }
     requires by { by.place < length g.old.gates }
     requires some { 1 ≤ length a.now }
@@ -21,7 +22,7 @@ fn masked(alloc: Global, g: &mut Gates, a: &BitInt, by: Lit) -> Result<BitInt, N
     ensures inputs { g.new.inputs ≡ g.old.inputs }
 {
     let mask = BitInt::from_lits(alloc, &[by])?;
-    let row = bit_and(alloc, g, a, &mask)?;
+    let row = digit_by_digit(alloc, g, Operation::And, a, &mask)?;
     Ok(row)
 }
 
@@ -61,8 +62,8 @@ fn add_row(
     Ok((sum.lit(0), more))
 }
 
-/// The exact product. It has as many literals as both operands together.
-pub fn mul(alloc: Global, g: &mut Gates, a: &BitInt, b: &BitInt) -> Result<BitInt, NoMemory>
+/// The exact product, with a row for each digit of b.
+fn product(alloc: Global, g: &mut Gates, a: &BitInt, b: &BitInt) -> Result<BitInt, NoMemory>
     requires left { AreBelow (length g.old.gates) a.now }
     requires right { AreBelow (length g.old.gates) b.now }
     requires left_few { length a.now ≤ 130 }
@@ -86,4 +87,26 @@ pub fn mul(alloc: Global, g: &mut Gates, a: &BitInt, b: &BitInt) -> Result<BitIn
     let high = sub(alloc, g, &rest, &row)?;
     digits.extend_from_slice(high.digits())?;
     Ok(BitInt::from_vec(digits))
+}
+
+/// The exact product. It has as many literals as both operands together.
+pub fn mul(alloc: Global, g: &mut Gates, a: &BitInt, b: &BitInt) -> Result<BitInt, NoMemory>
+    requires left { AreBelow (length g.old.gates) a.now }
+    requires right { AreBelow (length g.old.gates) b.now }
+    requires left_few { length a.now ≤ 130 }
+    requires right_few { length b.now ≤ 130 }
+    ensures width { IfOk result (λ n. length n ≡ length a.now + length b.now) }
+    ensures below { IfOk result (λ n. AreBelow (length g.new.gates) n) }
+    ensures value { IfOk result (λ n. (bits : List Bool) → integer_of g.new.gates bits n ≡ integer_of g.old.gates bits a.now *ℤ integer_of g.old.gates bits b.now) }
+    ensures grown { Extends g.old.gates g.new.gates }
+    ensures inputs { g.new.inputs ≡ g.old.inputs }
+{
+    // Few rows of many digits take fewer gates, and a constant is short.
+    if a.len() < b.len() {
+        let whole = product(alloc, g, b, a)?;
+        Ok(whole)
+    } else {
+        let whole = product(alloc, g, a, b)?;
+        Ok(whole)
+    }
 }

@@ -2,7 +2,8 @@ ghost use Rattle.std.specs.Prelude.{◌≡◌, ◌<◌, length};
 ghost use Rattle.bit_ints.specs.Integers.{AreBelow};
 
 use crate::{
-    BitInt, Bits, Gates, Lit, add, bit_and, bit_or, bit_xor, eq, fits128, lt, mul, shr, sub,
+    BitInt, Bits, Gates, Lit, add, bit_and, bit_or, bit_xor, div_mod, eq, fits128, lt, mul, shl,
+    shr, sub,
 };
 use std::alloc::Global;
 use std::test::Fail;
@@ -89,6 +90,24 @@ fn sum_fits(alloc: Global, x: i128, y: i128) -> Result<bool, NoMemory> {
     truth(alloc, &g, fits)
 }
 
+fn divide(alloc: Global, x: i128, y: i128) -> Result<(i128, i128), NoMemory> {
+    let mut g = Gates::new(alloc);
+    let a = BitInt::from_const(alloc, &g, x)?;
+    let b = BitInt::from_const(alloc, &g, y)?;
+    let (quotient, remainder) = div_mod(alloc, &mut g, &a, &b)?;
+    Ok((read(alloc, &g, &quotient)?, read(alloc, &g, &remainder)?))
+}
+
+fn shift_left(alloc: Global, x: i128, y: i128) -> Result<Option<i128>, NoMemory> {
+    let mut g = Gates::new(alloc);
+    let a = BitInt::from_const(alloc, &g, x)?;
+    let b = BitInt::from_const(alloc, &g, y)?;
+    let (shifted, fits) = shl(alloc, &mut g, &a, &b)?;
+    let value = read(alloc, &g, &shifted)?;
+    let fits = truth(alloc, &g, fits)?;
+    Ok(if fits { Some(value) } else { None })
+}
+
 #[test]
 fn constants_take_few_digits(rt: HostRuntime) -> Result<(), Fail> {
     let alloc = rt.alloc();
@@ -126,12 +145,15 @@ fn operations_have_signs(rt: HostRuntime) -> Result<(), Fail> {
         (Binary::Mul, 0, -5, 0),
         (Binary::Mul, 127, -128, -16256),
         (Binary::Mul, 6, -1, -6),
+        (Binary::Mul, 3, -700, -2100),
         (Binary::And, -6, 12, 8),
         (Binary::Or, -6, 3, -5),
         (Binary::Xor, -1, 5, -6),
         (Binary::Shr, -5, 1, -3),
         (Binary::Shr, 5, 200, 0),
         (Binary::Shr, -1, 7, -1),
+        (Binary::Shr, -5, 300, -1),
+        (Binary::Shr, i128::MAX, 126, 1),
     ] {
         assert_eq!(rt; call(alloc, f, x, y)?, value);
     }
@@ -168,6 +190,46 @@ fn a_sum_may_be_too_wide(rt: HostRuntime) -> Result<(), Fail> {
         (2, 3, true),
     ] {
         assert_eq!(rt; sum_fits(alloc, x, y)?, fits);
+    }
+    Ok(())
+}
+
+#[test]
+fn quotients_are_rounded_down(rt: HostRuntime) -> Result<(), Fail> {
+    let alloc = rt.alloc();
+    for (x, y, quotient, remainder) in [
+        (7i128, 2i128, 3i128, 1i128),
+        (-7, 2, -4, 1),
+        (7, -2, -4, -1),
+        (-7, -2, 3, -1),
+        (-8, 2, -4, 0),
+        (6, -3, -2, 0),
+        (-128, -1, 128, 0),
+        (0, -5, 0, 0),
+        (-1, 1000, -1, 999),
+        (1, -1000, -1, -999),
+        (100, 7, 14, 2),
+        (i128::MIN, 3, -56713727820156410577229101238628035243, 1),
+    ] {
+        assert_eq!(rt; divide(alloc, x, y)?, (quotient, remainder));
+    }
+    Ok(())
+}
+
+#[test]
+fn shifts_to_the_left_may_be_too_wide(rt: HostRuntime) -> Result<(), Fail> {
+    let alloc = rt.alloc();
+    for (x, y, shifted) in [
+        (5i128, 3i128, Some(40i128)),
+        (-1, 127, Some(i128::MIN)),
+        (-1, 128, None),
+        (1, 126, Some(1 << 126)),
+        (1, 127, None),
+        (1, 200, None),
+        (0, 200, Some(0)),
+        (-3, 1, Some(-6)),
+    ] {
+        assert_eq!(rt; shift_left(alloc, x, y)?, shifted);
     }
     Ok(())
 }

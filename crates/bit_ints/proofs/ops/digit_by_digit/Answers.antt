@@ -1,7 +1,11 @@
 use Rattle.std.proofs.Common.{◌≡◌, ◌-◌, ◌≤◌, max, length, arith, ap, ◌∙◌}
-use Rattle.bit_ints.specs.Integers.{extended_by}
+use Rattle.std.proofs.lemmas.List.{length-map}
+use Rattle.bit_gates.specs.Formulas.{value_of}
+use Rattle.bit_ints.specs.Halving.{digit}
+use Rattle.bit_ints.specs.Integers.{integer, values, extended_by}
 use Rattle.bit_ints.specs.Operations.{meaning}
 use Rattle.bit_ints.proofs.Digits.{below_extended}
+use Rattle.bit_ints.proofs.Places.{digit-bitwise}
 use Rattle.bit_ints.proofs.Widths.{length-widened, widened_both}
 use Rattle.bit_ints.proofs.ops.digit_by_digit.Goals as goal
 
@@ -62,3 +66,13 @@ returns-clause-value c = λ bits.
     let y : c.in_ok-ys.ys.items ≡ extended_by (c.max-n.result - length c.args.b.now) c.args.b.now = rw c.digits-2.ensures.digits at c.in_ok-ys.ensures in
     let v = rw (c.deref.ensures.value, c.deref-2.ensures.value) at (c.in_ok-digits.ensures.value bits) in
     rw c.from_vec.ensures (v ∙ widened_both (meaning c.args.operation) c.max-n.result c.args.g.now.gates bits c.args.a.now c.args.b.now c.in_ok-xs.xs.items c.in_ok-ys.ys.items n x y)
+
+pub returns-clause-digits : goal.returns-clause-digits
+returns-clause-digits c = λ bits. λ k.
+    let n : c.max-n.result ≡ max (length c.args.a.now) (length c.args.b.now) = omega (arith, c.max-n.ensures, c.len.ensures.digits, c.len-2.ensures.digits) in
+    let x : c.in_ok-xs.xs.items ≡ extended_by (c.max-n.result - length c.args.a.now) c.args.a.now = rw c.digits.ensures.digits at c.in_ok-xs.ensures in
+    let y : c.in_ok-ys.ys.items ≡ extended_by (c.max-n.result - length c.args.b.now) c.args.b.now = rw c.digits-2.ensures.digits at c.in_ok-ys.ensures in
+    let v = rw (c.deref.ensures.value, c.deref-2.ensures.value) at (c.in_ok-digits.ensures.value bits) in
+    let size_a = length-map c.args.a.now (value_of c.args.g.now.gates bits) in
+    let size_b = length-map c.args.b.now (value_of c.args.g.now.gates bits) in
+    rw c.from_vec.ensures (ap (λ vs. digit k (integer vs)) (v ∙ widened_both (meaning c.args.operation) c.max-n.result c.args.g.now.gates bits c.args.a.now c.args.b.now c.in_ok-xs.xs.items c.in_ok-ys.ys.items n x y) ∙ digit-bitwise (meaning c.args.operation) k (values c.args.g.now.gates bits c.args.a.now) (values c.args.g.now.gates bits c.args.b.now) (omega (arith, c.len.ensures.digits, c.len.ensures.some)) (omega (arith, c.len-2.ensures.digits, c.len-2.ensures.some)))

@@ -1,16 +1,20 @@
-use Rattle.std.proofs.Common.{◌≡◌, ◌-◌, suc, ◌≤◌, length, arith, ap, ◌∙◌, pos, int_lt}
-use Rattle.std.proofs.lemmas.List.{length-map}
+use Rattle.std.proofs.Common.{◌∙◌, ap, refl, int_lt, pos}
 use Rattle.bit_gates.specs.Formulas.{value_of}
-use Rattle.bit_ints.specs.Integers.{integer_of, values}
-use Rattle.bit_ints.proofs.Orders.{sign-lt, lt-sub, sign_at, below_get}
+use Rattle.bit_gates.proofs.Arenas.{value_kept}
+use Rattle.bit_ints.specs.Integers.{integer_of}
+use Rattle.bit_ints.proofs.Digits.{below_later, grown_length, values_kept}
+use Rattle.bit_ints.proofs.Flips.{difference-is}
+use Rattle.bit_ints.proofs.Orders.{lt-sub}
 use Rattle.bit_ints.proofs.ops.lt.Goals as goal
 
-pub returns-clause-below : goal.returns-clause-below
-returns-clause-below c = below_get _ _ _ _ c.in_ok-difference.ensures.below c.lit-sign.ensures
+pub sum_is_negative-requires-clause-left : goal.sum_is_negative-requires-clause-left
+sum_is_negative-requires-clause-left c = below_later _ _ _ c.requires.left (grown_length _ _ c.in_ok-flipped.ensures.grown)
 
 pub returns-clause-value : goal.returns-clause-value
 returns-clause-value c = λ bits.
-    let size : length c.in_ok-difference.difference ≡ suc (c.len.result - 1) = omega (arith, c.len.ensures.digits, c.len.ensures.some) in
-    let last = sign_at c.sub.new.g.gates bits c.in_ok-difference.difference (c.len.result - 1) c.lit-sign.result c.lit-sign.ensures size in
-    let some : 1 ≤ length (values c.sub.new.g.gates bits c.in_ok-difference.difference) = omega (arith, length-map c.in_ok-difference.difference (value_of c.sub.new.g.gates bits)) in
-    last ∙ sign-lt (values c.sub.new.g.gates bits c.in_ok-difference.difference) some ∙ ap (λ z. int_lt z (pos 0)) (c.in_ok-difference.ensures.value bits) ∙ lt-sub (integer_of c.args.g.now.gates bits c.args.a.now) (integer_of c.args.g.now.gates bits c.args.b.now)
+    let grown = c.in_ok-flipped.ensures.grown in
+    let carry = value_kept _ _ bits c.constant-carry.result grown c.constant-carry.ensures.below in
+    let a = values_kept _ _ bits c.args.a.now grown c.requires.left in
+    let test = rw (carry, a) at (c.in_ok-less.ensures.value bits) in
+    let difference = difference-is (value_of c.args.g.now.gates bits c.constant-carry.result) (integer_of c.args.g.now.gates bits c.args.a.now) (integer_of c.args.g.now.gates bits c.args.b.now) _ _ (c.constant-carry.ensures.value bits) (c.in_ok-flipped.ensures.value bits) refl in
+    test ∙ ap (λ z. int_lt z (pos 0)) difference ∙ lt-sub (integer_of c.args.g.now.gates bits c.args.a.now) (integer_of c.args.g.now.gates bits c.args.b.now)

@@ -1,64 +1,16 @@
-use Rattle.std.proofs.Common.{◌≡◌, ◌+◌, ◌-◌, ◌≤◌, max, length, arith, ap, ◌∙◌}
-use Rattle.bit_ints.specs.Integers.{integer, extended_by}
-use Rattle.bit_ints.proofs.Digits.{below_extended}
-use Rattle.bit_ints.proofs.Widths.{length-widened, difference}
+use Rattle.bit_gates.specs.Formulas.{value_of}
+use Rattle.bit_gates.proofs.Arenas.{value_kept}
+use Rattle.bit_ints.proofs.Digits.{below_later, grown_length, values_kept}
+use Rattle.bit_ints.proofs.Flips.{difference-is}
 use Rattle.bit_ints.proofs.ops.sub.Goals as goal
 
-pub negated-requires : goal.negated-requires
-negated-requires c =
-    let y : c.in_ok-ys.ys.items ≡ extended_by (c.max-n.result + 1 - length c.args.b.now) c.args.b.now = rw c.digits-2.ensures.digits at c.in_ok-ys.ensures in
-    record { below = rw (c.deref.ensures.value, y) (below_extended (length c.args.g.now.gates) (c.max-n.result + 1 - length c.args.b.now) c.args.b.now c.requires.right) }
-
-pub summed-requires-clause-same : goal.summed-requires-clause-same
-summed-requires-clause-same c =
-    let n : c.max-n.result ≡ max (length c.args.a.now) (length c.args.b.now) = omega (arith, c.max-n.ensures, c.len.ensures.digits, c.len-2.ensures.digits) in
-    let some_a : 1 ≤ length c.args.a.now = omega (arith, c.len.ensures.digits, c.len.ensures.some) in
-    let some_b : 1 ≤ length c.args.b.now = omega (arith, c.len-2.ensures.digits, c.len-2.ensures.some) in
-    let x : c.in_ok-xs.xs.items ≡ extended_by (c.max-n.result + 1 - length c.args.a.now) c.args.a.now = rw c.digits.ensures.digits at c.in_ok-xs.ensures in
-    let y : c.in_ok-ys.ys.items ≡ extended_by (c.max-n.result + 1 - length c.args.b.now) c.args.b.now = rw c.digits-2.ensures.digits at c.in_ok-ys.ensures in
-    let size : length c.in_ok-xs.xs.items ≡ c.max-n.result + 1 = length-widened (c.max-n.result + 1) c.args.a.now c.in_ok-xs.xs.items x some_a (omega arith) in
-    let size_y : length c.in_ok-ys.ys.items ≡ c.max-n.result + 1 = length-widened (c.max-n.result + 1) c.args.b.now c.in_ok-ys.ys.items y some_b (omega arith) in
-    omega (arith, ap length c.deref.ensures.value, ap length c.deref-2.ensures.value, ap length c.deref-3.ensures.value, c.in_ok-negated_ys.ensures.length)
-
-pub summed-requires-clause-left : goal.summed-requires-clause-left
-summed-requires-clause-left c =
-    let x : c.in_ok-xs.xs.items ≡ extended_by (c.max-n.result + 1 - length c.args.a.now) c.args.a.now = rw c.digits.ensures.digits at c.in_ok-xs.ensures in
-    rw (c.deref-2.ensures.value, x) (below_extended (length c.args.g.now.gates) (c.max-n.result + 1 - length c.args.a.now) c.args.a.now c.requires.left)
-
-pub from_vec-requires-clause-some : goal.from_vec-requires-clause-some
-from_vec-requires-clause-some c =
-    let n : c.max-n.result ≡ max (length c.args.a.now) (length c.args.b.now) = omega (arith, c.max-n.ensures, c.len.ensures.digits, c.len-2.ensures.digits) in
-    let some_a : 1 ≤ length c.args.a.now = omega (arith, c.len.ensures.digits, c.len.ensures.some) in
-    let some_b : 1 ≤ length c.args.b.now = omega (arith, c.len-2.ensures.digits, c.len-2.ensures.some) in
-    let x : c.in_ok-xs.xs.items ≡ extended_by (c.max-n.result + 1 - length c.args.a.now) c.args.a.now = rw c.digits.ensures.digits at c.in_ok-xs.ensures in
-    let size : length c.in_ok-xs.xs.items ≡ c.max-n.result + 1 = length-widened (c.max-n.result + 1) c.args.a.now c.in_ok-xs.xs.items x some_a (omega arith) in
-    omega (arith, c.in_ok-digits.ensures.length, ap length c.deref-2.ensures.value)
-
-pub from_vec-requires-clause-few : goal.from_vec-requires-clause-few
-from_vec-requires-clause-few c =
-    let n : c.max-n.result ≡ max (length c.args.a.now) (length c.args.b.now) = omega (arith, c.max-n.ensures, c.len.ensures.digits, c.len-2.ensures.digits) in
-    let some_a : 1 ≤ length c.args.a.now = omega (arith, c.len.ensures.digits, c.len.ensures.some) in
-    let some_b : 1 ≤ length c.args.b.now = omega (arith, c.len-2.ensures.digits, c.len-2.ensures.some) in
-    let x : c.in_ok-xs.xs.items ≡ extended_by (c.max-n.result + 1 - length c.args.a.now) c.args.a.now = rw c.digits.ensures.digits at c.in_ok-xs.ensures in
-    let size : length c.in_ok-xs.xs.items ≡ c.max-n.result + 1 = length-widened (c.max-n.result + 1) c.args.a.now c.in_ok-xs.xs.items x some_a (omega arith) in
-    omega (arith, c.in_ok-digits.ensures.length, ap length c.deref-2.ensures.value)
-
-pub returns-clause-width : goal.returns-clause-width
-returns-clause-width c =
-    let n : c.max-n.result ≡ max (length c.args.a.now) (length c.args.b.now) = omega (arith, c.max-n.ensures, c.len.ensures.digits, c.len-2.ensures.digits) in
-    let some_a : 1 ≤ length c.args.a.now = omega (arith, c.len.ensures.digits, c.len.ensures.some) in
-    let some_b : 1 ≤ length c.args.b.now = omega (arith, c.len-2.ensures.digits, c.len-2.ensures.some) in
-    let x : c.in_ok-xs.xs.items ≡ extended_by (c.max-n.result + 1 - length c.args.a.now) c.args.a.now = rw c.digits.ensures.digits at c.in_ok-xs.ensures in
-    let size : length c.in_ok-xs.xs.items ≡ c.max-n.result + 1 = length-widened (c.max-n.result + 1) c.args.a.now c.in_ok-xs.xs.items x some_a (omega arith) in
-    rw c.from_vec.ensures (omega (arith, c.in_ok-digits.ensures.length, ap length c.deref-2.ensures.value))
+pub sum_with_carry-requires-clause-left : goal.sum_with_carry-requires-clause-left
+sum_with_carry-requires-clause-left c = below_later _ _ _ c.requires.left (grown_length _ _ c.in_ok-flipped.ensures.grown)
 
 pub returns-clause-value : goal.returns-clause-value
 returns-clause-value c = λ bits.
-    let n : c.max-n.result ≡ max (length c.args.a.now) (length c.args.b.now) = omega (arith, c.max-n.ensures, c.len.ensures.digits, c.len-2.ensures.digits) in
-    let some_a : 1 ≤ length c.args.a.now = omega (arith, c.len.ensures.digits, c.len.ensures.some) in
-    let some_b : 1 ≤ length c.args.b.now = omega (arith, c.len-2.ensures.digits, c.len-2.ensures.some) in
-    let x : c.in_ok-xs.xs.items ≡ extended_by (c.max-n.result + 1 - length c.args.a.now) c.args.a.now = rw c.digits.ensures.digits at c.in_ok-xs.ensures in
-    let y : c.in_ok-ys.ys.items ≡ extended_by (c.max-n.result + 1 - length c.args.b.now) c.args.b.now = rw c.digits-2.ensures.digits at c.in_ok-ys.ensures in
-    let nots = rw c.deref.ensures.value at (c.in_ok-negated_ys.ensures.value bits) in
-    let v = rw (c.deref-2.ensures.value, c.deref-3.ensures.value, c.constant-carry.ensures.value bits) at (c.in_ok-digits.ensures.value bits) in
-    rw c.from_vec.ensures (ap integer v ∙ difference c.max-n.result c.args.g.now.gates bits c.args.a.now c.args.b.now c.in_ok-xs.xs.items c.in_ok-ys.ys.items c.in_ok-negated_ys.negated_ys.items n some_a some_b x y nots)
+    let grown = c.in_ok-flipped.ensures.grown in
+    let carry = value_kept _ _ bits c.constant-carry.result grown c.constant-carry.ensures.below in
+    let a = values_kept _ _ bits c.args.a.now grown c.requires.left in
+    let sum = rw (carry, a) at (c.in_ok-difference.ensures.value bits) in
+    difference-is (value_of c.args.g.now.gates bits c.constant-carry.result) _ _ _ _ (c.constant-carry.ensures.value bits) (c.in_ok-flipped.ensures.value bits) sum

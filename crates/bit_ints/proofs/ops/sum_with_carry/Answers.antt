@@ -1,8 +1,9 @@
 use Rattle.std.proofs.Common.{◌≡◌, ◌+◌, ◌-◌, ◌≤◌, max, length, arith, ap, ◌∙◌}
+use Rattle.bit_gates.specs.Formulas.{value_of}
 use Rattle.bit_ints.specs.Integers.{integer, extended_by}
 use Rattle.bit_ints.proofs.Digits.{below_extended}
-use Rattle.bit_ints.proofs.Widths.{length-widened, plain_sum}
-use Rattle.bit_ints.proofs.ops.add.Goals as goal
+use Rattle.bit_ints.proofs.Widths.{length-widened, carried_sum}
+use Rattle.bit_ints.proofs.ops.sum_with_carry.Goals as goal
 
 pub summed-requires-clause-same : goal.summed-requires-clause-same
 summed-requires-clause-same c =
@@ -59,5 +60,5 @@ returns-clause-value c = λ bits.
     let some_b : 1 ≤ length c.args.b.now = omega (arith, c.len-2.ensures.digits, c.len-2.ensures.some) in
     let x : c.in_ok-xs.xs.items ≡ extended_by (c.max-n.result + 1 - length c.args.a.now) c.args.a.now = rw c.digits.ensures.digits at c.in_ok-xs.ensures in
     let y : c.in_ok-ys.ys.items ≡ extended_by (c.max-n.result + 1 - length c.args.b.now) c.args.b.now = rw c.digits-2.ensures.digits at c.in_ok-ys.ensures in
-    let v = rw (c.deref.ensures.value, c.deref-2.ensures.value, c.constant-carry.ensures.value bits) at (c.in_ok-digits.ensures.value bits) in
-    rw c.from_vec.ensures (ap integer v ∙ plain_sum c.max-n.result c.args.g.now.gates bits c.args.a.now c.args.b.now c.in_ok-xs.xs.items c.in_ok-ys.ys.items n some_a some_b x y)
+    let v = rw (c.deref.ensures.value, c.deref-2.ensures.value) at (c.in_ok-digits.ensures.value bits) in
+    rw c.from_vec.ensures (ap integer v ∙ carried_sum c.max-n.result (value_of c.args.g.now.gates bits c.args.carry) c.args.g.now.gates bits c.args.a.now c.args.b.now c.in_ok-xs.xs.items c.in_ok-ys.ys.items n some_a some_b x y)

@@ -3,7 +3,7 @@ use Rattle.std.proofs.lemmas.List.{append-nil}
 use Rattle.bit_ints.proofs.Digits.{below_later, below_push, grown_length, grown_more}
 use Rattle.bit_ints.proofs.Orders.{below_get}
 use Rattle.bit_ints.proofs.Rows.{row_turn, last_row, no_row, below_append}
-use Rattle.bit_ints.proofs.products.mul.Goals as goal
+use Rattle.bit_ints.proofs.products.product.Goals as goal
 
 pub loop-i-init : goal.loop-i-init
 loop-i-init c =

@@ -2,7 +2,7 @@ use Rattle.std.proofs.Common.{◌≡◌, ◌≤◌, ◌+ℤ◌, ◌*ℤ◌, leng
 use Rattle.bit_gates.specs.Formulas.{Extends}
 use Rattle.bit_ints.specs.Integers.{AreBelow, values, integer, integer_of}
 use Rattle.bit_ints.proofs.Sums.{onto}
-use Rattle.bit_ints.proofs.products.mul.Given as goal
+use Rattle.bit_ints.proofs.products.product.Given as goal
 
 abbrev pub invariant-loop-i : goal.invariant-loop-i
 invariant-loop-i l = record {
