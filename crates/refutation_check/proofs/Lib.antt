@@ -1,0 +1,6 @@
+pub mod Closures
+pub mod Falling
+pub mod Lists
+pub mod Literals
+pub mod Looks
+pub mod Models

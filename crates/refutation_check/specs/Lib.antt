@@ -1,0 +1,4 @@
+pub mod Dues
+pub mod Propagation
+pub mod Refutations
+pub mod Truth

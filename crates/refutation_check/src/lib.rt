@@ -1,0 +1,18 @@
+//! A checker of refutations in propositional logic.
+//!
+//! A [`Refutation`] of [`Clauses`] under assumptions is a list of clauses that ends with the empty one, each of which
+//! unit propagation confirms. Whoever made it is not trusted: [`accepts`] tests it, and what it accepts has no model.
+#![tactic(auto)]
+
+mod accepting;
+mod clauses;
+mod lit;
+mod propagation;
+
+pub use accepting::accepts;
+pub use clauses::{Clauses, Refutation};
+pub use lit::SatLit;
+pub use propagation::meets_conflict;
+
+#[cfg(test)]
+mod tests;

@@ -1,0 +1,3 @@
+pub mod Branches
+pub mod Growth
+pub mod Naming
