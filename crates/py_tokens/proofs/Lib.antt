@@ -1,0 +1,12 @@
+mod Appending
+mod Digits
+mod Earlier
+mod Indented
+mod Insides
+mod Lengths
+mod Logical
+mod Reading
+mod Runs
+mod Scans
+mod Spans
+mod Turns

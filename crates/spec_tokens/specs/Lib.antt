@@ -1,0 +1,9 @@
+pub mod Letters
+pub mod Forms
+pub mod Pieces
+pub mod Cutting
+pub mod Values
+pub mod Refusals
+pub mod Lines
+pub mod Tokens
+pub mod WellFormed
