@@ -1,0 +1,12 @@
+pub mod Steps
+pub mod Fronts
+pub mod Full
+pub mod Sound
+pub mod Laws
+pub mod TypeLaws
+pub mod StatementParts
+pub mod StatementLaws
+pub mod HeaderLaws
+pub mod BlockLaws
+pub mod Rows
+pub mod BlockRows

@@ -1,0 +1,14 @@
+pub mod Words
+pub mod Marks
+pub mod Grammar
+pub mod Reading
+pub mod Types
+pub mod TypeReading
+pub mod Statements
+pub mod Headers
+pub mod StatementReading
+pub mod HeaderReading
+pub mod Height
+pub mod Load
+pub mod Blocks
+pub mod BlockReading

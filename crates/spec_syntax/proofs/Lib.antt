@@ -1,0 +1,4 @@
+pub mod PlacementLaws
+pub mod PhaseLaws
+pub mod NumberLaws
+pub mod Rows

@@ -1,0 +1,5 @@
+pub mod TokenWords
+pub mod Lines
+pub mod Placement
+pub mod Phases
+pub mod Texts

@@ -1,0 +1,3 @@
+pub mod Expr
+pub mod Stmt
+pub mod Module
