@@ -1,0 +1,9 @@
+pub mod Names
+pub mod Growing
+pub mod Exprs
+pub mod Types
+pub mod State
+pub mod Stmts
+pub mod Arena
+pub mod Inside
+pub mod Classes
