@@ -1,2 +1,9 @@
+pub mod Ends
+pub mod Following
 pub mod Fronts
+pub mod Heads
+pub mod Least
+pub mod Ordered
+pub mod Outlined
+pub mod Placed
 pub mod Reaching

@@ -1,4 +1,4 @@
-ghost use Rattle.std.specs.Prelude.{◌≡◌, [], ◌∷◌, OnOk, OnErr};
+ghost use Rattle.std.specs.Prelude.{◌≡◌, ◌-◌, [], ◌∷◌, length, drop, OnOk, OnErr};
 ghost use Rattle.py_outline.specs.Lists.{first_item, without_first, with_first};
 
 use std::alloc::Global;
@@ -50,6 +50,13 @@ impl<T: Copy> Stack<T> {
         ensures { self.new ≡ without_first self.old }
     {
         self.items.pop();
+    }
+
+    /// Takes items off, where there are more than `len`, until there are as many.
+    pub fn shorten(&mut self, len: usize)
+        ensures { self.new ≡ drop (length self.old - len) self.old }
+    {
+        self.items.truncate(len);
     }
 
     /// Puts another item in place of the one that was pushed last, where there is one.
