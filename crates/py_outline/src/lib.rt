@@ -9,6 +9,8 @@ mod outline;
 mod placement;
 mod stack;
 mod surroundings;
+#[cfg(test)]
+mod tests;
 mod told;
 
 pub use load::Load;
