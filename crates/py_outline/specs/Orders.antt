@@ -77,13 +77,14 @@ past_block o ks = if awaits_block o.form then from_next o.depth ks else ks
 abbrev pub header_at : ℕ → Outline → Option HeaderKind
 header_at d k = if k.depth == d then header_of k.form else None
 
--- a line before the next one: its block begins just one deeper, and with no line that goes on; without a block no line stands deeper
+-- a line that awaits its block, before the next one: the block begins just one deeper, and with no line that goes on
+abbrev pub begun_faults : Outline → Outline → List ℕ
+begun_faults o k = if nat_lt o.depth k.depth then fault_if (nat_lt (suc o.depth) k.depth || goes_on (header_of k.form)) k.line else o.line ∷ []
+
+-- a line before the very next one: where it awaits no block, that stands no deeper
 abbrev pub block_faults : Outline → Option Outline → List ℕ
 block_faults o None = fault_if (awaits_block o.form) o.line
-block_faults o (Some k) =
-    if awaits_block o.form then
-    if nat_lt o.depth k.depth then fault_if (nat_lt (suc o.depth) k.depth || goes_on (header_of k.form)) k.line else o.line ∷ []
-    else fault_if (nat_lt o.depth k.depth) k.line
+block_faults o (Some k) = if awaits_block o.form then begun_faults o k else fault_if (nat_lt o.depth k.depth) k.line
 
 -- what is wrong between a line with the header h and the next one in its block, with the header g
 abbrev pub follow_faults : Outline → Outline → Option HeaderKind → Option HeaderKind → List ℕ

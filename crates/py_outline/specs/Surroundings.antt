@@ -52,7 +52,7 @@ abbrev pub is_inner : Place → Bool
 is_inner place.Inner = true
 is_inner _ = false
 
--- whether a simple statement may stand there
+-- whether a simple statement may stand there: `return` in a function, `break` and `continue` in a loop, `raise` alone in a handler, and imports in no block
 abbrev pub allows_simple : Surroundings → SimpleKind → Bool
 allows_simple r simple.Return = r.in_function
 allows_simple r simple.Break = r.in_loop
@@ -61,7 +61,7 @@ allows_simple r simple.Reraise = r.in_handler
 allows_simple r simple.Import = is_module r.place
 allows_simple r simple.Other = true
 
--- whether a header may stand there
+-- whether a header may stand there: `class` in no block, and `def` in none or directly in a class that stands in none
 abbrev pub allows_header : Surroundings → HeaderKind → Bool
 allows_header r head.Class = is_module r.place
 allows_header r head.Def = not (is_inner r.place)

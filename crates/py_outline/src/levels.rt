@@ -10,20 +10,18 @@ use xh_outside::NoMemory;
 #[derive(Drop)]
 pub(crate) struct Levels {
     counts: Stack<usize>,
-    /// The number of counts.
-    depth: usize,
     /// The sum of the counts.
     total: usize,
 }
 
 impl Model for Levels {
-    ghost use Rattle.std.specs.Prelude.{◌≡◌, ℕ, List, length, sum};
+    ghost use Rattle.std.specs.Prelude.{◌≡◌, ℕ, List, sum};
 
     ghost Value = { List ℕ };
 
     ghost view = { λ s. s.counts };
 
-    ghost invariant = { λ s. (s.depth ≡ length s.counts) × (s.total ≡ sum s.counts) };
+    ghost invariant = { λ s. s.total ≡ sum s.counts };
 }
 
 impl Levels {
@@ -33,7 +31,6 @@ impl Levels {
     {
         Levels {
             counts: Stack::new(alloc),
-            depth: 0,
             total: 0,
         }
     }
@@ -43,7 +40,7 @@ impl Levels {
         requires { load_of self.now < 2 ^ 64 }
         ensures { result ≡ load_of self.now }
     {
-        self.total + self.depth.saturating_sub(1)
+        self.total + self.counts.len().saturating_sub(1)
     }
 
     /// One more level, the innermost. Where there is no memory for it, the levels stay as they were.
@@ -53,7 +50,6 @@ impl Levels {
         ensures err { OnErr result (self.new ≡ self.old) }
     {
         self.counts.push(0)?;
-        self.depth += 1;
         Ok(())
     }
 
@@ -63,7 +59,6 @@ impl Levels {
     {
         self.begin_anew();
         self.counts.pop();
-        self.depth = self.depth.saturating_sub(1);
     }
 
     /// The innermost level counts from 0 again.

@@ -2,6 +2,7 @@
 //! stand where they may.
 #![tactic(auto)]
 
+mod headers;
 mod levels;
 mod load;
 mod orders;

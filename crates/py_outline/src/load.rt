@@ -10,7 +10,7 @@ use std::marker::Model;
 use xh_outside::NoMemory;
 
 /// The greatest load that is admitted at a word of a line.
-const ADMITTED: usize = 100;
+const GREATEST_LOAD: usize = 100;
 
 /// How deep a reader goes into the words of a line, which are pushed one after the other.
 #[derive(Drop)]
@@ -97,7 +97,7 @@ impl Load {
         }
         pass(&mut self.levels, self.ends_operand, mark)?;
         self.ends_operand = closes_operand(mark);
-        self.is_over = self.levels.load() > ADMITTED;
+        self.is_over = self.levels.load() > GREATEST_LOAD;
         Ok(())
     }
 

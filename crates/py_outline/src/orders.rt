@@ -1,70 +1,14 @@
 ghost use Rattle.std.specs.Prelude.{◌≡◌, IfOk};
 ghost use Rattle.spec_syntax.specs.Placement.{smallest};
-ghost use Rattle.py_outline.specs.Orders.{goes_on, is_except, is_catch_all, is_try, before_else, may_follow, header_at, from_next, past_block, block_faults, next_faults, follow_faults, order_faults};
+ghost use Rattle.py_outline.specs.Orders.{header_at, from_next, past_block, block_faults, next_faults, follow_faults, order_faults};
 ghost use Rattle.py_outline.specs.Told.{least};
 
+use crate::headers::{goes_on, is_catch_all, is_except, is_try, may_follow};
 use crate::stack::Stack;
 use crate::told::with_fault;
 use crate::{HeaderKind, Outline};
 use std::alloc::Global;
 use xh_outside::NoMemory;
-
-/// Whether a line with this header goes on with the statement before it in its block.
-pub(crate) fn goes_on(header: Option<HeaderKind>) -> bool
-    ensures { result ≡ goes_on header }
-{
-    matches!(
-        header,
-        Some(HeaderKind::Elif | HeaderKind::Else | HeaderKind::Except | HeaderKind::ExceptAll)
-    )
-}
-
-fn is_try(header: Option<HeaderKind>) -> bool
-    ensures { result ≡ is_try header }
-{
-    matches!(header, Some(HeaderKind::Try))
-}
-
-fn is_except(header: Option<HeaderKind>) -> bool
-    ensures { result ≡ is_except header }
-{
-    matches!(header, Some(HeaderKind::Except | HeaderKind::ExceptAll))
-}
-
-fn is_catch_all(header: Option<HeaderKind>) -> bool
-    ensures { result ≡ is_catch_all header }
-{
-    matches!(header, Some(HeaderKind::ExceptAll))
-}
-
-/// Whether a line with the header `next` may stand behind one with the header `before`, in one block.
-fn may_follow(before: Option<HeaderKind>, next: Option<HeaderKind>) -> bool
-    ensures { result ≡ may_follow before next }
-{
-    match next {
-        Some(HeaderKind::Elif) => matches!(before, Some(HeaderKind::If | HeaderKind::Elif)),
-        Some(HeaderKind::Else) => may_have_else(before),
-        Some(HeaderKind::Except | HeaderKind::ExceptAll) => is_try(before) || is_except(before),
-        _ => true,
-    }
-}
-
-/// Whether `else` may go on with a statement whose last header this is.
-fn may_have_else(header: Option<HeaderKind>) -> bool
-    ensures { result ≡ before_else header }
-{
-    matches!(
-        header,
-        Some(
-            HeaderKind::If
-                | HeaderKind::Elif
-                | HeaderKind::While
-                | HeaderKind::For
-                | HeaderKind::Except
-                | HeaderKind::ExceptAll
-        )
-    )
-}
 
 /// The header of a line, where it stands in `depth` blocks.
 fn header_at(depth: usize, outline: Outline) -> Option<HeaderKind>
@@ -84,7 +28,7 @@ fn with_block_faults(told: Option<u32>, outline: Outline, next: Option<Outline>)
     let awaits_block = outline.form.awaits_block();
     match next {
         None => with_fault(told, awaits_block, outline.line),
-        Some(next) if !awaits_block => { with_fault(told, next.depth > outline.depth, next.line) }
+        Some(next) if !awaits_block => with_fault(told, next.depth > outline.depth, next.line),
         Some(next) if next.depth <= outline.depth => with_fault(told, true, outline.line),
         Some(next) => {
             let is_fault = next.depth - outline.depth > 1 || goes_on(next.form.header());
@@ -122,8 +66,8 @@ fn with_follow_faults(
     with_fault(told, is_catch_all(header) && is_except(after), outline.line)
 }
 
-/// Leaves the lines from the next one on that stands in at most `depth` blocks.
-fn leave_deeper(behind: &mut Stack<Outline>, depth: usize)
+/// Drops the first lines, as long as they stand in more than `depth` blocks.
+fn drop_deeper(behind: &mut Stack<Outline>, depth: usize)
     ensures { behind.new ≡ from_next depth behind.old }
 {
     while let Some(outline) = behind.first() {
@@ -134,18 +78,18 @@ fn leave_deeper(behind: &mut Stack<Outline>, depth: usize)
     }
 }
 
-/// Leaves the lines behind a line and behind the block that it awaits.
-fn leave_past_block(behind: &mut Stack<Outline>, outline: Outline)
+/// Drops the lines of the block that a line awaits.
+fn drop_block(behind: &mut Stack<Outline>, outline: Outline)
     ensures { behind.new ≡ past_block outline behind.old }
 {
     if outline.form.awaits_block() {
-        leave_deeper(behind, outline.depth);
+        drop_deeper(behind, outline.depth);
     }
 }
 
 /// The smallest line of a fault between lines.
-// Goes from the last line to the first. Behind each, those are kept that some line before may look for: a line that
-// awaits a block looks for the first one that is not deeper.
+// Goes from the last line to the first. A line that awaits a block looks for the first one behind it that is no deeper,
+// so the lines of that block are of no use to any line before, and each line is dropped at most once.
 pub(crate) fn order_fault(alloc: Global, outlines: &[Outline]) -> Result<Option<u32>, NoMemory>
     ensures { IfOk result (λ line. line ≡ smallest (order_faults outlines.now)) }
 {
@@ -153,7 +97,7 @@ pub(crate) fn order_fault(alloc: Global, outlines: &[Outline]) -> Result<Option<
     let mut behind = Stack::new(alloc);
     for outline in outlines.iter().rev() {
         told = with_block_faults(told, *outline, behind.first());
-        leave_past_block(&mut behind, *outline);
+        drop_block(&mut behind, *outline);
         told = with_next_faults(told, *outline, behind.first());
         behind.push(*outline)?;
     }

@@ -6,7 +6,8 @@ ghost use Rattle.py_outline.specs.Outlines.{outline_of};
 ghost use Rattle.py_outline.specs.Told.{first_faults};
 
 use crate::Outline;
-use crate::orders::{goes_on, order_fault};
+use crate::headers::goes_on;
+use crate::orders::order_fault;
 use crate::surroundings::place_fault;
 use crate::told::{least, with_fault};
 use std::alloc::Global;

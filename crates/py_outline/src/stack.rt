@@ -29,6 +29,13 @@ impl<T: Copy> Stack<T> {
         }
     }
 
+    /// The number of items.
+    pub fn len(&self) -> usize
+        ensures { result ≡ length self.now }
+    {
+        self.items.len()
+    }
+
     /// Where there is no memory for the item, the stack stays as it was.
     pub fn push(&mut self, item: T) -> Result<(), NoMemory>
         ensures ok { OnOk result (self.new ≡ item ∷ self.old) }

@@ -6,8 +6,10 @@ ghost use Rattle.py_outline.specs.Told.{least};
 pub(crate) fn with_fault(told: Option<u32>, is_fault: bool, line: u32) -> Option<u32>
     ensures { result ≡ least told (smallest (fault_if is_fault line)) }
 {
+    if !is_fault {
+        return told;
+    }
     match told {
-        _ if !is_fault => told,
         Some(smallest) => Some(smallest.min(line)),
         None => Some(line),
     }

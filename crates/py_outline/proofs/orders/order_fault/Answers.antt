@@ -16,7 +16,7 @@ loop-outline-preserved c =
     let o = c.in-Some.outline.now in
     let kept = c.loop-outline.behind in
     let seen : last_items (length (c.loop-outline.yielded ++ c.in-Some.outline ∷ [])) c.args.outlines.now ≡ o ∷ last_items (length c.loop-outline.yielded) c.args.outlines.now = ap (λ n. last_items n c.args.outlines.now) (length_push c.loop-outline.yielded c.in-Some.outline) ∙ last_items-more (length c.loop-outline.yielded) c.args.outlines.now o t.0 t.1 in
-    let past : c.first-in-loop-outline.result ≡ first_item (past_block o kept) = c.first-in-loop-outline.ensures ∙ ap first_item c.leave_past_block.ensures in
+    let past : c.first-in-loop-outline.result ≡ first_item (past_block o kept) = c.first-in-loop-outline.ensures ∙ ap first_item c.drop_block.ensures in
     let told : c.with_block_faults-told.result ≡ least c.loop-outline.told (smallest (block_faults o (first_item kept))) = c.with_block_faults-told.ensures ∙ ap (λ k. least c.loop-outline.told (smallest (block_faults o k))) c.first.ensures in
     record {
       told = c.with_next_faults-told.ensures
@@ -24,5 +24,5 @@ loop-outline-preserved c =
           ∙ ap (λ a. least a (smallest (next_faults o (first_item (past_block o kept))))) told
           ∙ order_turn c.loop-outline.told o kept (last_items (length c.loop-outline.yielded) c.args.outlines.now) c.loop-outline.invariant.told c.loop-outline.invariant.shown
           ∙ ap (λ os. smallest (order_faults os)) (sym seen);
-      shown = rw (seen, c.in_ok-push.ensures.ok, c.leave_past_block.ensures) (shows_more o kept (last_items (length c.loop-outline.yielded) c.args.outlines.now) c.loop-outline.invariant.shown);
+      shown = rw (seen, c.in_ok-push.ensures.ok, c.drop_block.ensures) (shows_more o kept (last_items (length c.loop-outline.yielded) c.args.outlines.now) c.loop-outline.invariant.shown);
     }

@@ -1,6 +1,6 @@
 use Rattle.std.proofs.Common.{◌≡◌, length}
 use Rattle.py_outline.specs.Orders.{from_next}
-use Rattle.py_outline.proofs.orders.leave_deeper.Given as goal
+use Rattle.py_outline.proofs.orders.drop_deeper.Given as goal
 
 abbrev pub invariant-loop-outline : goal.invariant-loop-outline
 invariant-loop-outline l = from_next l.depth l.behind ≡ from_next l.depth l.initial.behind
