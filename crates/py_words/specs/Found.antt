@@ -1,0 +1,34 @@
+-- What is found at a place among words, by what the grammar finds at the front of the words there.
+use Rattle.std.specs.Prelude.{◌≡◌, ℕ, ◌+◌, List, [], ◌∷◌, drop, Option, Some, None}
+use Rattle.spec_grammar.specs.declared.Mark.{Mark}
+use Rattle.spec_grammar.specs.Words.{Word, Name, Int, Str, Sign}
+use Rattle.py_words.specs.declared.words.Word as kept
+use Rattle.py_words.specs.Seen.{seen}
+
+-- the place behind what stands there
+abbrev pub Finds : List Word → Option ℕ → Option (List Word) → Type 0
+Finds s None o = o ≡ None
+Finds s (Some p) o = o ≡ Some (drop p s)
+
+-- a value and the place behind it
+abbrev pub FindsWith : {A : Type 0} → List Word → Option (A × ℕ) → Option (A × List Word) → Type 0
+FindsWith s None o = o ≡ None
+FindsWith s (Some x) o = o ≡ Some (x.0, drop x.1 s)
+
+-- the same, of a value that is seen by a view
+abbrev pub FindsSeen : {A B : Type 0} → (B → A) → List Word → Option (B × ℕ) → Option (A × List Word) → Type 0
+FindsSeen view s None o = o ≡ None
+FindsSeen view s (Some x) o = o ≡ Some (view x.0, drop x.1 s)
+
+-- the word at a place, or the end
+abbrev pub IsFirst : List Word → ℕ → Option kept.Word → Type 0
+IsFirst s p None = drop p s ≡ []
+IsFirst s p (Some w) = drop p s ≡ seen w ∷ drop (p + 1) s
+
+-- the sign that words begin with, and what follows it
+abbrev pub first_sign : List Word → Option (Mark × List Word)
+first_sign [] = None
+first_sign (Name n x ∷ s) = None
+first_sign (Int n v ∷ s) = None
+first_sign (Str p ∷ s) = None
+first_sign (Sign n m ∷ s) = Some (m, s)

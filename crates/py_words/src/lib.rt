@@ -1,0 +1,12 @@
+//! The words of a module of Python, as its parser reads them.
+//!
+//! [`LineWords`] are the words of one logical line. Its readers say what stands at a place, and the place behind it. Each
+//! of them takes any place, and finds nothing at the end of the line or past it.
+#![tactic(auto)]
+
+mod marks;
+mod names;
+mod words;
+
+pub use spec_grammar::Mark;
+pub use words::{LineWords, Word};
