@@ -1,7 +1,10 @@
 -- What is found at a place among words, by what the grammar finds at the front of the words there.
 use Rattle.std.specs.Prelude.{◌≡◌, ℕ, ◌+◌, List, [], ◌∷◌, drop, Option, Some, None}
+use Rattle.spec_trees.specs.Expr.{StringPart}
 use Rattle.spec_grammar.specs.declared.Mark.{Mark}
 use Rattle.spec_grammar.specs.Words.{Word, Name, Int, Str, Sign}
+use Rattle.py_tree.specs.declared.exprs.StrPart.{StrPart}
+use Rattle.py_tree.specs.Exprs.{part_tree}
 use Rattle.py_words.specs.declared.words.Word as kept
 use Rattle.py_words.specs.Seen.{seen}
 
@@ -32,3 +35,16 @@ first_sign (Name n x ∷ s) = None
 first_sign (Int n v ∷ s) = None
 first_sign (Str p ∷ s) = None
 first_sign (Sign n m ∷ s) = Some (m, s)
+
+-- the string that words begin with
+abbrev pub first_string : List Word → Option StringPart
+first_string [] = None
+first_string (Name n x ∷ s) = None
+first_string (Int n v ∷ s) = None
+first_string (Str p ∷ s) = Some p
+first_string (Sign n m ∷ s) = None
+
+-- the string at a place and the place behind it, or no string there
+abbrev pub FindsString : List Word → ℕ → Option (StrPart × ℕ) → Type 0
+FindsString s p None = first_string (drop p s) ≡ None
+FindsString s p (Some x) = drop p s ≡ Str (part_tree x.0) ∷ drop x.1 s

@@ -6,6 +6,7 @@
 
 mod marks;
 mod names;
+mod strings;
 mod words;
 
 pub use spec_grammar::Mark;
