@@ -47,6 +47,10 @@ token_at s i = option_map (λ t. record { kind = t.kind; start = place s.scan t.
 abbrev pub slice_at : Scanned → ℕ → Option (List ℕ)
 slice_at s i = option_map (λ t. take (place s.scan t.end - place s.scan t.start) (drop (place s.scan t.start) s.bytes)) (slice_get s.scan.tokens i)
 
+-- the letters of the token of a number
+abbrev pub letters_at : Scanned → ℕ → Option (List ℕ)
+letters_at s i = option_map (spelled s.scan.letters) (slice_get s.scan.tokens i)
+
 -- the spaces and tabs that the line begins with on which a token starts
 abbrev pub indent_at : Scanned → ℕ → Option ℕ
 indent_at s i = option_map (λ t. get_or s.scan.indents (t.line - 1) 0) (slice_get s.scan.tokens i)

@@ -13,7 +13,7 @@ use std::alloc::Global;
 use xh_outside::NoMemory;
 
 /// Whether the letters spell a word of ASCII.
-fn spell(letters: &[char], word: &str) -> bool
+pub fn spell(letters: &[char], word: &str) -> bool
     ensures { result ≡ bytes_eq word.now letters.now }
 {
     let mut bytes = word.as_bytes();

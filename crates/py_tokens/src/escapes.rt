@@ -180,7 +180,7 @@ fn copied(alloc: Global, letters: &[char]) -> Result<Text, NoMemory>
 }
 
 /// Whether a string has the prefix `r` or `R`, behind which backslashes stay.
-pub(crate) fn is_raw(letters: &[char]) -> bool
+pub fn is_raw(letters: &[char]) -> bool
     ensures { result ≡ is_raw letters.now }
 {
     matches!(letters.first(), Some('r' | 'R'))
@@ -206,8 +206,8 @@ fn quote_count(letters: &[char]) -> usize
     }
 }
 
-/// What stands between the quotes.
-pub(crate) fn inside(letters: &[char]) -> &[char]
+/// What stands between the quotes of a string.
+pub fn inside(letters: &[char]) -> &[char]
     ensures { result.now ≡ inside_of letters.now }
 {
     let quoted = unprefixed(letters);
@@ -225,7 +225,7 @@ pub(crate) fn has_value(letters: &[char]) -> bool
 }
 
 /// The text that a string stands for, if each of its escapes has a value.
-pub(crate) fn text_value(alloc: Global, letters: &[char]) -> Result<Option<Text>, NoMemory>
+pub fn text_value(alloc: Global, letters: &[char]) -> Result<Option<Text>, NoMemory>
     ensures { IfOk result (λ o. o ≡ text_value letters.now) }
 {
     if is_raw(letters) {

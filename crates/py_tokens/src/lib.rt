@@ -23,7 +23,9 @@ mod tests;
 mod tokens;
 mod values;
 
+pub use building::spell;
 pub use errors::TokenError;
+pub use escapes::{inside, is_raw, text_value};
 pub use scanning::scan;
 pub use spec_tokens::TokenKind;
 pub use tokens::{Token, Tokens};

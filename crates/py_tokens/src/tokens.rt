@@ -5,7 +5,7 @@ ghost use Rattle.spec_tokens.specs.Values.{integer_value};
 ghost use Rattle.std.specs.Option.{option_copied};
 ghost use Rattle.spec_tokens.specs.WellFormed.{place, spelled};
 ghost use Rattle.unicode_normalization.specs.Forms.{nfkc};
-ghost use Rattle.py_tokens.specs.Scanned.{token_at, slice_at, indent_at, integer_at, text_at, name_at};
+ghost use Rattle.py_tokens.specs.Scanned.{token_at, slice_at, letters_at, indent_at, integer_at, text_at, name_at};
 
 use crate::escapes::text_value;
 use crate::refusals::between;
@@ -107,6 +107,15 @@ impl Tokens {
         let start = self.place(lexeme.start);
         let end = self.place(lexeme.end);
         Some(&self.text.as_str()[start..end])
+    }
+
+    /// The letters of the token at place `i`, where each line end is one line feed. It is None exactly where `i` is not
+    /// below the number of tokens.
+    pub fn letters(&self, i: usize) -> Option<&[char]>
+        ensures { option_copied result ≡ letters_at self.now i }
+    {
+        let lexeme = self.lexeme(i)?;
+        Some(self.spelled(lexeme))
     }
 
     /// How many spaces and tabs the line begins with on which the token at place `i` starts.

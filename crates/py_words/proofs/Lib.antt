@@ -1,3 +1,4 @@
 pub mod Places
 pub mod Signs
 pub mod Literals
+pub mod TokenKinds

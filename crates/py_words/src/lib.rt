@@ -4,10 +4,14 @@
 //! of them takes any place, and finds nothing at the end of the line or past it.
 #![tactic(auto)]
 
+mod lines;
 mod marks;
 mod names;
+mod spellings;
 mod strings;
+mod tokens;
 mod words;
 
+pub use lines::{WordLine, word_lines};
 pub use spec_grammar::Mark;
 pub use words::{LineWords, Word};
