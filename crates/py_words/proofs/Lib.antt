@@ -2,3 +2,4 @@ pub mod Places
 pub mod Signs
 pub mod Literals
 pub mod TokenKinds
+pub mod LogicalLines

@@ -1,6 +1,6 @@
 -- The word of a token, by what its readers give.
-use Rattle.std.proofs.Common.{◌≡◌, ◌≢◌, ℕ, ◌-◌, List, [], Option, Some, None, Bor, ℤ, pos, nat_abs, refl, sym, ap, ◌∙◌}
-use Rattle.std.specs.Prelude.{slice_get, get_or}
+use Rattle.std.proofs.Common.{◌≡◌, ◌≢◌, ℕ, ◌-◌, List, [], Option, Some, None, Bor, ℤ, pos, nat_abs, refl}
+use Rattle.std.specs.Prelude.{get_or}
 use Rattle.std.specs.Option.{option_map, option_and_then, option_copied, unwrap_or}
 use Rattle.spec_tokens.specs.declared.Lexeme.{Lexeme}
 use Rattle.spec_tokens.specs.declared.TokenKind.{TokenKind}
@@ -8,10 +8,10 @@ use Rattle.spec_tokens.specs.declared.TokenKind.TheVariants as kind
 use Rattle.spec_tokens.specs.Tokens.{Scan}
 use Rattle.spec_tokens.specs.Values.{integer_value}
 use Rattle.spec_tokens.specs.WellFormed.{place, spelled}
-use Rattle.spec_grammar.specs.Words.{Word, Name, Int, Str, Sign}
+use Rattle.spec_grammar.specs.Words.{Name, Int, Str, Sign}
 use Rattle.spec_syntax.specs.TokenWords.{part_of, word_by, mark_of, word_of}
 use Rattle.py_tokens.specs.declared.tokens.Token.{Token}
-use Rattle.py_tokens.specs.Scanned.{Scanned, if_name, if_integer, token_at, letters_at, indent_at, name_at, integer_at}
+use Rattle.py_tokens.specs.Scanned.{if_name, if_integer}
 
 -- ---- by the kind of a token
 

@@ -1,7 +1,7 @@
-use Rattle.std.proofs.Common.{rules, ◌∙◌, sym, Some, ap, List, ℕ, Option, unwrap_or, [], Bor}
+use Rattle.std.proofs.Common.{rules, ◌∙◌, sym, Some, ap, ℕ, Option, unwrap_or}
 use Rattle.std.specs.Int.{w128}
 use Rattle.std.proofs.lemmas.Int.{to_z-of_z}
-use Rattle.spec_grammar.specs.Words.{Word, Int, Str, Sign}
+use Rattle.spec_grammar.specs.Words.{Int, Str, Sign}
 use Rattle.py_words.proofs.TokenKinds.{name_word, integer_word, string_word, sign_word, letters_or}
 use Rattle.py_words.proofs.tokens.word_of.Goals as goal
 
