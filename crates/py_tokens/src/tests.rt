@@ -165,6 +165,8 @@ fn tokens_have_values(rt: HostRuntime) -> Result<(), Fail> {
     assert_eq!(rt; tokens.slice(0), Some("x"));
     assert_eq!(rt; tokens.slice(3), Some("\n"));
     assert_eq!(rt; tokens.slice(5), None);
+    assert_eq!(rt; tokens.letters(0), Some(['x'].as_slice()));
+    assert_eq!(rt; tokens.letters(5), None);
     assert!(rt; tokens.get(5).is_none());
     assert!(rt; tokens.str_value(rt.alloc(), 0)?.is_none());
     assert!(rt; tokens.name_text(rt.alloc(), 1)?.is_none());

@@ -9,6 +9,8 @@ mod marks;
 mod names;
 mod spellings;
 mod strings;
+#[cfg(test)]
+mod tests;
 mod tokens;
 mod words;
 
