@@ -1,7 +1,8 @@
 //! The words of a module of Python, as its parser reads them.
 //!
-//! [`LineWords`] are the words of one logical line. Its readers say what stands at a place, and the place behind it. Each
-//! of them takes any place, and finds nothing at the end of the line or past it.
+//! [`word_lines`] cuts the tokens of a text into logical lines. [`LineWords`] are the words of one of them: its
+//! readers say what stands at a place, and the place behind it. Each takes any place, and finds nothing at the end of
+//! the line or past it.
 #![tactic(auto)]
 
 mod lines;
