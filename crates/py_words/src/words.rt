@@ -71,7 +71,8 @@ impl LineWords {
 
     /// The number of words.
     pub fn len(&self) -> usize
-        ensures { result ≡ length self.now }
+        ensures count { result ≡ length self.now }
+        ensures small { result < 2 ^ 63 }
     {
         self.words.len()
     }
