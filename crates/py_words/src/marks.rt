@@ -188,7 +188,7 @@ fn augmented_of(mark: Mark) -> Option<Operator>
 
 impl LineWords {
     /// The sign at a place, and the place behind it.
-    fn any_sign(&self, pos: usize) -> Option<(Mark, usize)>
+    pub fn any_sign(&self, pos: usize) -> Option<(Mark, usize)>
         ensures { FindsWith self.now result (first_sign (drop pos self.now)) }
     {
         match self.first(pos)? {
