@@ -1,10 +1,12 @@
 -- What is found at a place among words, by what the grammar finds at the front of the words there.
-use Rattle.std.specs.Prelude.{◌≡◌, ℕ, ◌+◌, List, [], ◌∷◌, drop, Option, Some, None}
+use Rattle.std.specs.Prelude.{◌≡◌, ⊤, ℕ, ◌+◌, List, [], ◌∷◌, drop, Option, Some, None}
 use Rattle.spec_trees.specs.Expr.{StringPart}
 use Rattle.spec_grammar.specs.declared.Mark.{Mark}
 use Rattle.spec_grammar.specs.Words.{Word, Name, Int, Str, Sign}
 use Rattle.py_tree.specs.declared.exprs.StrPart.{StrPart}
 use Rattle.py_tree.specs.Exprs.{part_tree}
+use Rattle.py_words.specs.declared.unread.Unread.{Unread}
+use Rattle.py_words.specs.declared.unread.Unread.TheVariants.{NoForm, NoMemory}
 use Rattle.py_words.specs.declared.words.Word as kept
 use Rattle.py_words.specs.Seen.{seen}
 
@@ -48,3 +50,8 @@ first_string (Sign n m ∷ s) = None
 abbrev pub FindsString : List Word → ℕ → Option (StrPart × ℕ) → Type 0
 FindsString s p None = first_string (drop p s) ≡ None
 FindsString s p (Some x) = drop p s ≡ Str (part_tree x.0) ∷ drop x.1 s
+
+-- nothing is there to be read; a want of memory says nothing of it
+abbrev pub Fails : {A : Type 0} → Unread → Option A → Type 0
+Fails NoForm o = o ≡ None
+Fails NoMemory o = ⊤

@@ -13,8 +13,10 @@ mod strings;
 #[cfg(test)]
 mod tests;
 mod tokens;
+mod unread;
 mod words;
 
 pub use lines::{WordLine, word_lines};
 pub use spec_grammar::Mark;
+pub use unread::Unread;
 pub use words::{LineWords, Word};
