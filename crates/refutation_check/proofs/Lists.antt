@@ -1,8 +1,8 @@
 -- Elements of lists and the tests that find them.
-use Rattle.std.proofs.Common.{◌≡◌, ℕ, zero, suc, ◌<◌, Bool, true, false, List, [], ◌∷◌, take, ◌≤◌, refl, sym, ap, ◌∙◌, arith, Some, None, find, cond, ◌⊎◌, inl, inr, Contains}
-use Rattle.std.specs.List.{list_any, list_all}
+use Rattle.std.proofs.Common.{◌≡◌, ℕ, zero, suc, ◌<◌, Bool, true, false, List, [], ◌∷◌, length, get_or, take, ◌≤◌, refl, sym, ap, subst, ◌∙◌, arith, Option, Some, None, find, cond, ◌⊎◌, inl, inr, Contains}
+use Rattle.std.specs.List.{list_any, list_all, filter_map, cons_option}
 use Rattle.std.proofs.lemmas.Bool.{and_parts, and_cases, and_from}
-use Rattle.std.proofs.lemmas.List.{get_or-take, length-take}
+use Rattle.std.proofs.lemmas.List.{get_or-take, get_or_default, length-take}
 use Rattle.std.proofs.lemmas.List.Folds.{Any-from_list_any, list_any-from_Any}
 
 module _ {X : Type 0} where
@@ -75,3 +75,31 @@ module _ {X : Type 0} where
   -- an element that passes
   pub any_from : (p : X → Bool) (xs : List X) (x : X) → Contains xs x → p x ≡ true → list_any p xs ≡ true
   any_from p xs x c t = list_any-from_Any p xs (c.0, x, c.1, c.2, t)
+
+-- what a function gives of an element stands in the list of what it gives
+pub contains_filtered : {X Y : Type 0} (h : X → Option Y) (xs : List X) (x : X) (y : Y) → Contains xs x → h x ≡ Some y → Contains (filter_map h xs) y
+contains_filtered h [] x y c e = absurd (contains_none x c)
+contains_filtered {Y = Y} h (z ∷ xs) x y c e = elim (contains_cases z xs x c) [
+  | inl s ↦ (let P : Option Y → Type 0 = λ o. Contains (cons_option o (filter_map h xs)) y in subst P (sym (ap h s ∙ e)) (contains_head y (filter_map h xs)))
+  | inr r ↦ by (h z) (contains_filtered h xs x y r e)
+]
+  where
+    by : (o : Option Y) → Contains (filter_map h xs) y → Contains (cons_option o (filter_map h xs)) y
+    by None t = t
+    by (Some w) t = contains_tail w (filter_map h xs) y t
+
+-- and nothing else stands there
+pub filtered_contains : {X Y : Type 0} (h : X → Option Y) (xs : List X) (y : Y) → Contains (filter_map h xs) y → (x : X) × Contains xs x × (h x ≡ Some y)
+filtered_contains h [] y c = absurd (contains_none y c)
+filtered_contains {X = X} {Y = Y} h (z ∷ xs) y c = by (filtered_contains h xs y) (h z) refl c
+  where
+    by : (Contains (filter_map h xs) y → (x : X) × Contains xs x × (h x ≡ Some y)) → (o : Option Y) → h z ≡ o → Contains (cons_option o (filter_map h xs)) y → (x : X) × Contains (z ∷ xs) x × (h x ≡ Some y)
+    by rest None e t = let r = rest t in (r.0, contains_tail z xs r.0 r.1, r.2)
+    by rest (Some w) e t = elim (contains_cases w (filter_map h xs) y t) [
+      | inl s ↦ (z, contains_head z xs, e ∙ ap (λ (v : Y). Some v) s)
+      | inr u ↦ (let r = rest u in (r.0, contains_tail z xs r.0 r.1, r.2))
+    ]
+
+-- what is read at a place stands in the list
+pub contains_at : {X : Type 0} (xs : List X) (i : ℕ) (d : X) → i < length xs → Contains xs (get_or xs i d)
+contains_at xs i d lt = (i, lt, get_or_default xs i (get_or xs i d) d lt)

@@ -13,3 +13,7 @@ pub data IsForced (clauses : List (List SatLit)) (given : List SatLit) : SatLit 
 pub data IsConflict (clauses : List (List SatLit)) (given : List SatLit) : Type 0 where
   clause_fails : (c : List SatLit) → Contains clauses c → ((k : SatLit) → Contains c k → IsForced clauses given (negated k)) → IsConflict clauses given
   literal_fails : (l : SatLit) → IsForced clauses given l → IsForced clauses given (negated l) → IsConflict clauses given
+
+-- all of some literals are forced
+abbrev pub AreForced : List (List SatLit) → List SatLit → List SatLit → Type 0
+AreForced clauses given lits = (l : SatLit) → Contains lits l → IsForced clauses given l

@@ -6,13 +6,22 @@
 
 mod accepting;
 mod clauses;
+mod guide;
+mod hints;
+mod known;
 mod lit;
 mod propagation;
+mod reasons;
+mod refutation;
+mod slots;
 
 pub use accepting::accepts;
-pub use clauses::{Clauses, Refutation};
+pub use clauses::Clauses;
+pub use known::Known;
 pub use lit::SatLit;
 pub use propagation::meets_conflict;
+pub use reasons::Reason;
+pub use refutation::Refutation;
 
 #[cfg(test)]
 mod tests;

@@ -1,4 +1,4 @@
-use crate::{Clauses, Refutation, SatLit, accepts, meets_conflict};
+use crate::{Clauses, Known, Reason, Refutation, SatLit, accepts, meets_conflict};
 use std::alloc::Global;
 use std::test::Fail;
 use xh_outside::NoMemory;
@@ -100,6 +100,47 @@ fn repeated_and_opposite_literals(rt: HostRuntime) -> Result<(), Fail> {
             want,
             "in row {row}"
         );
+    }
+    Ok(())
+}
+
+// Whether a reason shows that P follows, and whether refutations with it are accepted: one that is right, and one that is
+// not.
+fn answers_with(
+    alloc: Global,
+    clauses: &Clauses,
+    reason: Reason<'_>,
+) -> Result<[bool; 3], NoMemory> {
+    let mut right = Refutation::new(alloc);
+    let mut known = Known::new(alloc, clauses, &[], &right)?;
+    let shown = known.shows(clauses, &right, &[P], reason);
+    right.push_with_reason(&[P], reason)?;
+    right.push(&[])?;
+    let mut wrong = Refutation::new(alloc);
+    wrong.push_with_reason(&[], reason)?;
+    Ok([
+        shown,
+        accepts(alloc, clauses, &[], &right)?,
+        accepts(alloc, clauses, &[], &wrong)?,
+    ])
+}
+
+#[test]
+fn reasons_change_no_answer(rt: HostRuntime) -> Result<(), Fail> {
+    let four = clauses_of(
+        rt.alloc(),
+        &[&[P, Q], &[P, NOT_Q], &[NOT_P, Q], &[NOT_P, NOT_Q]],
+    )?;
+    // the first is right for the clause P, and the others for nothing
+    let rows: [(&[usize], &[usize]); 4] = [
+        (&[], &[0, 1]),
+        (&[], &[0]),
+        (&[3, 9], &[2, 7, 2]),
+        (&[0, 1, 2, 3], &[3]),
+    ];
+    for (row, (causes, hints)) in rows.into_iter().enumerate() {
+        let answers = answers_with(rt.alloc(), &four, Reason { causes, hints })?;
+        assert!(rt; answers == [row == 0, true, false], "in row {row}");
     }
     Ok(())
 }

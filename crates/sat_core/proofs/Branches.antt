@@ -1,15 +1,15 @@
 -- What a branch of the search gives at its end.
-use Rattle.std.proofs.Common.{◌≡◌, ℕ, ◌-◌, ◌<◌, Bool, true, false, not, cond, List, [], ◌∷◌, ◌++◌, length, get_or, drop, map, refl, sym, ap, subst, ◌∙◌, arith, ◌⊎◌, inl, inr, Contains, Some, slice_get}
-use Rattle.std.proofs.lemmas.Bool.{cases_Bool, not-false, false_from_ne_true, true_from_ne_false, both_ways}
+use Rattle.std.proofs.Common.{◌≡◌, ℕ, ◌-◌, ◌<◌, Bool, true, false, not, cond, List, [], ◌∷◌, ◌++◌, length, get_or, drop, map, refl, sym, ap, subst, ◌∙◌, arith, inl, inr, Contains, Some, slice_get}
+use Rattle.std.proofs.lemmas.Bool.{not-false, false_from_ne_true, true_from_ne_false, both_ways}
 use Rattle.std.proofs.lemmas.List.{get_or_push, length_push}
 use Rattle.std.proofs.lemmas.List.Elements.{Contains-append_left, Contains-append_right, Contains-push, Contains-push_cases}
 use Rattle.std.proofs.lemmas.Option.{slice_get-get_or}
 use Rattle.refutation_check.specs.declared.lit.SatLit.{SatLit}
-use Rattle.refutation_check.specs.Truth.{negated, literal_value, clause_value, has}
+use Rattle.refutation_check.specs.Truth.{negated, literal_value, clause_value, IsModel}
 use Rattle.refutation_check.specs.Propagation.{IsForced, is_given, IsConflict, clause_fails, literal_fails}
 use Rattle.refutation_check.specs.Refutations.{EachFollows, IsAccepted}
 use Rattle.refutation_check.proofs.Lists.{any_from, contains_head, contains_tail, contains_cases, contains_none}
-use Rattle.refutation_check.proofs.Literals.{has_told, has_from, has_not}
+use Rattle.refutation_check.proofs.Literals.{has_told, has_not}
 use Rattle.refutation_check.proofs.Models.{accepted_unmet}
 use Rattle.sat_core.specs.Variables.{IsNamed, in_clause, in_assumption, variables_of}
 use Rattle.sat_core.specs.Models.{model_value, IsModelOf, IsRefutationOf}
@@ -92,6 +92,13 @@ module _ (clauses : List (List SatLit)) (assumptions : List SatLit) where
       unnamed = λ x out. false_from_ne_true (model_value splits x) (λ t. out (h.splits_named (record { var = x; positive = true }) (has_told splits (record { var = x; positive = true }) t)));
     }
 
+  -- literals that give the values of a model are one
+  pub same_model : (lits model : List SatLit) → ((x : ℕ) → model_value lits x ≡ model_value model x) → IsModelOf clauses assumptions model → IsModelOf clauses assumptions lits
+  same_model lits model h m =
+      let P : (ℕ → Bool) → Type 0 = λ v. IsModel v clauses assumptions in
+      let e : model_value lits ≡ model_value model = λ j x. h x j in
+      record { holds = subst P (sym e) m.holds; unnamed = λ x out. h x ∙ m.unnamed x out }
+
   -- a branch that meets a conflict is closed
   pub closed_leaf : (splits : List SatLit) (old new : List (List SatLit)) → EachFollows clauses assumptions old → IsConflict clauses (assumptions ++ splits) → new ≡ old ++ map negated splits ∷ [] → IsClosed clauses assumptions splits old new
   closed_leaf splits old new each h e =
@@ -121,8 +128,8 @@ module _ (clauses : List (List SatLit)) (assumptions : List SatLit) where
       }
 
   -- where the first branch is closed, the refutation is accepted
-  pub closed_first : (steps : List (List SatLit)) → IsClosed clauses assumptions [] [] steps → IsRefutationOf clauses assumptions steps
-  closed_first steps h =
+  pub closed_first : (old steps : List (List SatLit)) → IsClosed clauses assumptions [] old steps → IsRefutationOf clauses assumptions steps
+  closed_first old steps h =
       let P : List (List SatLit) → Type 0 = λ r. slice_get r (length r - 1) ≡ Some [] in
       let n : length h.earlier ≡ length (h.earlier ++ [] ∷ []) - 1 = omega (arith, length_push h.earlier []) in
       let lt : length (h.earlier ++ [] ∷ []) - 1 < length (h.earlier ++ [] ∷ []) = omega (arith, length_push h.earlier []) in

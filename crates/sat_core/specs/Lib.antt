@@ -1,3 +1,4 @@
+pub mod Learning
 pub mod Models
 pub mod Search
 pub mod Variables

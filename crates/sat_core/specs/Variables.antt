@@ -1,5 +1,5 @@
 -- The variables that clauses and assumptions name, each once.
-use Rattle.std.specs.Prelude.{◌≡◌, ℕ, List, [], ◌∷◌, ◌++◌, Contains, if◌then◌else◌, nat_eq}
+use Rattle.std.specs.Prelude.{◌≡◌, ℕ, true, List, [], ◌∷◌, ◌++◌, map, Contains, if◌then◌else◌, nat_eq}
 use Rattle.std.specs.List.{list_any}
 use Rattle.refutation_check.specs.declared.lit.SatLit.{SatLit}
 
@@ -25,3 +25,13 @@ with_clauses vars (c ∷ clauses) = with_clauses (with_variables vars c) clauses
 -- the variables of assumptions and of clauses
 abbrev pub variables_of : List (List SatLit) → List SatLit → List ℕ
 variables_of clauses assumptions = with_clauses (with_variables [] assumptions) clauses
+
+-- one of some literals is a variable or its negation
+pub record HasVariable (lits : List SatLit) (x : ℕ) : Type 0 where
+  pub lit : SatLit
+  pub there : Contains lits lit
+  pub variable : lit.var ≡ x
+
+-- variables, as literals
+abbrev pub true_literals : List ℕ → List SatLit
+true_literals vars = map (λ x. record { var = x; positive = true }) vars

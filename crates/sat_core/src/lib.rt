@@ -2,7 +2,12 @@
 //! accepts.
 #![tactic(auto)]
 
+mod learner;
+mod learning;
+mod lesson;
 mod model;
+mod offered;
+mod order;
 mod search;
 mod solver;
 mod variables;

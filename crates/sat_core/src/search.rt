@@ -75,7 +75,7 @@ pub(crate) fn search(
         return Ok(None);
     }
     if vars.is_empty() {
-        return Ok(Some(SatModel::from_slice(alloc, splits)?));
+        return Ok(Some(SatModel::from_literals(alloc, splits)?));
     }
     let yes = with_literal(alloc, splits, vars[0], true)?;
     match search(alloc, clauses, assumptions, &vars[1..], &yes, refutation)? {

@@ -2,6 +2,7 @@ ghost use Rattle.std.specs.Prelude.{◌≡◌, [], ◌∷◌, ◌++◌, IfOk, On
 ghost use Rattle.sat_core.specs.Models.{IsAnswer};
 
 use crate::Solved;
+use crate::learning::{Learning, learn};
 use crate::search::search;
 use crate::variables::variables;
 use refutation_check::{Clauses, Refutation, SatLit};
@@ -57,8 +58,13 @@ impl Solver {
         ensures answer { IfOk result (IsAnswer self.old assumptions.now) }
         ensures kept { self.new ≡ self.old }
     {
-        let vars = variables(self.alloc, &self.clauses, assumptions)?;
         let mut refutation = Refutation::new(self.alloc);
+        match learn(self.alloc, &self.clauses, assumptions, &mut refutation)? {
+            Learning::Model(model) => return Ok(Solved::Sat(model)),
+            Learning::Refuted => return Ok(Solved::Unsat(refutation)),
+            Learning::Open => {}
+        }
+        let vars = variables(self.alloc, &self.clauses, assumptions)?;
         match search(
             self.alloc,
             &self.clauses,

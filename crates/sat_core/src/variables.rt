@@ -26,7 +26,7 @@ fn add_variables(vars: &mut Vec<usize>, lits: &[SatLit]) -> Result<(), NoMemory>
 }
 
 // The clause at a place.
-fn clause_at(clauses: &Clauses, i: usize) -> &[SatLit]
+pub(crate) fn clause_at(clauses: &Clauses, i: usize) -> &[SatLit]
     requires { i < length clauses.now }
     ensures { result.now ≡ slice_index_or clauses.now i result.now }
 {

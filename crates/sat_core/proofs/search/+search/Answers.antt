@@ -1,10 +1,9 @@
-use Rattle.std.proofs.Common.{◌≡◌, ◌==◌, ℕ, ◌-◌, ◌<◌, ◌++◌, ◌∷◌, [], Bool, true, false, List, length, take, drop, get_or, sym, ap, subst, ◌∙◌, refl, arith, length-drop, Option, None}
+use Rattle.std.proofs.Common.{◌≡◌, ℕ, ◌-◌, ◌<◌, ◌++◌, ◌∷◌, [], Bool, true, false, List, length, take, drop, get_or, sym, ap, subst, ◌∙◌, refl, arith, length-drop, Option, None}
 use Rattle.std.proofs.lemmas.Bool.{both_ways, eqb-true, eqb-false}
 use Rattle.std.proofs.lemmas.List.{take_rest, get_or_default}
 use Rattle.refutation_check.specs.declared.lit.SatLit.{SatLit}
-use Rattle.sat_core.specs.Models.{IsModelOf}
 use Rattle.sat_core.specs.Search.{IsCovered, IsClosed, IsSearched}
-use Rattle.sat_core.proofs.Branches.{covered_side, leaf_model, closed_leaf, closed_sides}
+use Rattle.sat_core.proofs.Branches.{covered_side, leaf_model, same_model, closed_leaf, closed_sides}
 use Rattle.sat_core.proofs.search.+search.Goals as goal
 
 pub returns-then-branch : goal.returns-then-branch
@@ -14,8 +13,7 @@ pub returns-then-is_empty : goal.returns-then-is_empty
 returns-then-is_empty t c =
     let none : length c.args.vars.now ≡ 0 = eqb-true (length c.args.vars.now) 0 (sym c.is_empty.ensures ∙ c.if-is_empty.true) in
     let m = leaf_model c.args.clauses.now c.args.assumptions.now c.args.vars.now c.args.splits.now c.requires.covered none (λ h. both_ways c.in_ok-is_closed.field-0 c.if-branch.false (c.in_ok-is_closed.ensures.1 h)) in
-    let P : List SatLit → Type 0 = λ x. IsModelOf c.args.clauses.now c.args.assumptions.now x in
-    subst P (sym c.in_ok-from_slice.ensures) m
+    same_model c.args.clauses.now c.args.assumptions.now c.in_ok-from_literals.field-0 c.args.splits.now c.in_ok-from_literals.ensures m
 
 -- the first variable is split on one side
 side : (clauses : List (List SatLit)) (assumptions splits more : List SatLit) (vars : List ℕ) (p : Bool) → 0 < length vars → more ≡ splits ++ record { var = get_or vars 0 0; positive = p } ∷ [] → IsCovered clauses assumptions vars splits → IsCovered clauses assumptions (take (length vars - 1) (drop 1 vars)) more

@@ -1,4 +1,4 @@
-use Rattle.std.proofs.Common.{◌++◌, ◌↔◌, List, IsTrue, IfOk, sym, ap, subst, ◌∙◌}
+use Rattle.std.proofs.Common.{◌++◌, ◌↔◌, List, IsTrue, IfOk, ap, subst, ◌∙◌}
 use Rattle.refutation_check.specs.declared.lit.SatLit.{SatLit}
 use Rattle.refutation_check.specs.Propagation.{IsConflict}
 use Rattle.sat_core.proofs.search.is_closed.Goals as goal

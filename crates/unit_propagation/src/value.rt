@@ -1,0 +1,7 @@
+/// What is known of a literal.
+#[derive(Clone, Copy, PartialEq, Eq)]
+pub enum Value {
+    Open,
+    True,
+    False,
+}
