@@ -1,0 +1,11 @@
+use Rattle.std.proofs.lemmas.Result.{err_from_is_err_and}
+use Rattle.py_statements.proofs.Turns.{fails_on, shows, evaluate_none, evaluate_read}
+use Rattle.py_statements.proofs.assignments.evaluate.Goals as goal
+
+pub returns-in_err-value-clause-read : goal.returns-in_err-value-clause-read
+returns-in_err-value-clause-read c =
+    let p = err_from_is_err_and c.from_residual.result c.from_residual.ensures.1 in
+    rw (p.1, p.2) (fails_on _ _ _ c.in_err-value.ensures.read (λ n. evaluate_none _ n))
+
+pub returns-clause-read : goal.returns-clause-read
+returns-clause-read c = (c.in_ok-add.ensures.there, shows _ _ _ (evaluate_read _ _ _ c.line-line.ensures c.in_ok-value.ensures.read.1) c.in_ok-add.ensures.tree)

@@ -1,0 +1,18 @@
+use Rattle.std.proofs.Common.{sym, ◌∙◌}
+use Rattle.std.proofs.lemmas.Result.{err_from_is_err_and}
+use Rattle.py_statements.proofs.Turns.{fails_on, shows, delete_none, delete_left, delete_other, delete_read}
+use Rattle.py_statements.proofs.keywords.delete_statement.Goals as goal
+
+pub returns-in_err-target-clause-read : goal.returns-in_err-target-clause-read
+returns-in_err-target-clause-read c =
+    let p = err_from_is_err_and c.from_residual.result c.from_residual.ensures.1 in
+    rw (p.1, p.2) (fails_on _ _ _ c.in_err-target.ensures.read (λ n. delete_none _ _ n))
+
+pub returns-then-not-at_end-clause-read : goal.returns-then-not-at_end-clause-read
+returns-then-not-at_end-clause-read c = delete_left _ _ _ _ c.in_ok-target.ensures.read.1 (sym c.at_end.ensures ∙ c.if-not-at_end.true)
+
+pub returns-then-not-is_index-clause-read : goal.returns-then-not-is_index-clause-read
+returns-then-not-is_index-clause-read c = delete_other _ _ _ _ c.in_ok-target.ensures.read.1 (sym c.at_end.ensures ∙ c.if-not-at_end.false) (sym c.is_index.ensures ∙ c.if-not-is_index.true)
+
+pub returns-clause-read : goal.returns-clause-read
+returns-clause-read c = (c.in_ok-add.ensures.there, shows _ _ _ (delete_read _ _ _ _ c.in_ok-target.ensures.read.1 (sym c.at_end.ensures ∙ c.if-not-at_end.false) (sym c.is_index.ensures ∙ c.if-not-is_index.false)) c.in_ok-add.ensures.tree)

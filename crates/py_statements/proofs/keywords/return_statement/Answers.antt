@@ -1,0 +1,15 @@
+use Rattle.std.proofs.Common.{sym, ◌∙◌}
+use Rattle.std.proofs.lemmas.Result.{err_from_is_err_and}
+use Rattle.py_statements.proofs.Turns.{fails_on, shows, return_alone, return_none, return_read}
+use Rattle.py_statements.proofs.keywords.return_statement.Goals as goal
+
+pub returns-then-at_end-clause-read : goal.returns-then-at_end-clause-read
+returns-then-at_end-clause-read c = (c.in_ok-add.ensures.there, shows _ _ _ (return_alone _ _ (sym c.at_end.ensures ∙ c.if-at_end.true)) c.in_ok-add.ensures.tree)
+
+pub returns-in_err-value-clause-read : goal.returns-in_err-value-clause-read
+returns-in_err-value-clause-read c =
+    let p = err_from_is_err_and c.from_residual-in_err-value.result c.from_residual-in_err-value.ensures.1 in
+    rw (p.1, p.2) (fails_on _ _ _ c.in_err-value.ensures.read (λ n. return_none _ _ (sym c.at_end.ensures ∙ c.if-at_end.false) n))
+
+pub returns-clause-read : goal.returns-clause-read
+returns-clause-read c = (c.in_ok-add-2.ensures.there, shows _ _ _ (return_read _ _ _ (sym c.at_end.ensures ∙ c.if-at_end.false) c.in_ok-value.ensures.read.1) c.in_ok-add-2.ensures.tree)
