@@ -7,15 +7,13 @@ use Rattle.spec_grammar.specs.Reading.{with_item, with_pair, with_link, with_arg
 use Rattle.py_tree.specs.declared.ids.ExprId.{ExprId}
 use Rattle.py_tree.specs.declared.ids.NameId.{NameId}
 use Rattle.py_tree.specs.declared.exprs.Argument.{Argument}
-use Rattle.py_tree.specs.declared.exprs.ArgumentsNode.{ArgumentsNode}
-use Rattle.py_tree.specs.declared.exprs.GeneratorNode.{GeneratorNode}
 use Rattle.py_tree.specs.declared.exprs.Link.{Link}
 use Rattle.py_tree.specs.declared.exprs.Pair.{Pair}
 use Rattle.py_tree.specs.Arena.{State, IsModule, shown}
 use Rattle.py_tree.specs.Names.{text_of}
-use Rattle.py_tree.specs.Exprs.{items_tree, pairs_tree, links_tree, bound_tree, name_of, argument_list_tree, generator_tree, arguments_tree, AreItemsBelow, ArePairsBelow, AreLinksBelow, AreArgumentsBelow, IsBoundBelow, IsNameBelow, IsGeneratorBelow, IsCallBelow}
-use Rattle.py_tree.proofs.Arenas.{names_grow, exprs_grow, text_kept, shown_kept, items_kept, pairs_kept, links_kept, bound_kept, name_kept, arguments_kept, generator_kept, call_kept}
-use Rattle.py_tree.proofs.Nodes.{items_more, pairs_more, links_more, bound_more, name_more, arguments_more, generator_more, call_more, items_push, pairs_push, links_push, arguments_push}
+use Rattle.py_tree.specs.Exprs.{items_tree, pairs_tree, links_tree, bound_tree, name_of, argument_list_tree, AreItemsBelow, ArePairsBelow, AreLinksBelow, AreArgumentsBelow, IsBoundBelow, IsNameBelow}
+use Rattle.py_tree.proofs.Arenas.{names_grow, exprs_grow, text_kept, shown_kept, items_kept, pairs_kept, links_kept, bound_kept, arguments_kept}
+use Rattle.py_tree.proofs.Nodes.{items_more, pairs_more, links_more, bound_more, arguments_more, items_push, pairs_push, links_push, arguments_push}
 use Rattle.py_expressions.specs.Given.{Grows}
 
 -- what is read in m is read in n
@@ -28,9 +26,6 @@ module _ (m n : State) (g : Grows m n) (d : IsModule m) where
 
   pub text_later : (x : NameId) → x.index < length m.names → (x.index < length n.names) × (text_of n.names x ≡ text_of m.names x)
   text_later x lt = let more = names_grow m n g.extends in (omega arith, text_kept m n x.index g.extends lt)
-
-  pub name_later : (x : Option NameId) → IsNameBelow (length m.names) x → IsNameBelow (length n.names) x × (name_of n.names x ≡ name_of m.names x)
-  name_later x h = (name_more (length m.names) (length n.names) (names_grow m n g.extends) x h, name_kept m n g.extends d x h)
 
   pub bound_later : (x : Option ExprId) → IsBoundBelow (length m.exprs) x → IsBoundBelow (length n.exprs) x × (bound_tree (shown n) x ≡ bound_tree (shown m) x)
   bound_later x h = (bound_more (length m.exprs) (length n.exprs) (exprs_grow m n g.extends) x h, bound_kept m n g.extends d x h)
@@ -46,12 +41,6 @@ module _ (m n : State) (g : Grows m n) (d : IsModule m) where
 
   pub arguments_later : (xs : List Argument) → AreArgumentsBelow (length m.names) (length m.exprs) xs → AreArgumentsBelow (length n.names) (length n.exprs) xs × (argument_list_tree n.names (shown n) xs ≡ argument_list_tree m.names (shown m) xs)
   arguments_later xs h = (arguments_more (length m.names) (length n.names) (length m.exprs) (length n.exprs) (names_grow m n g.extends) (exprs_grow m n g.extends) xs h, arguments_kept m n g.extends d xs h)
-
-  pub generator_later : (x : GeneratorNode) → IsGeneratorBelow (length m.names) (length m.exprs) x → IsGeneratorBelow (length n.names) (length n.exprs) x × (generator_tree n.names (shown n) x ≡ generator_tree m.names (shown m) x)
-  generator_later x h = (generator_more (length m.names) (length n.names) (length m.exprs) (length n.exprs) (names_grow m n g.extends) (exprs_grow m n g.extends) x h, generator_kept m n g.extends d x h)
-
-  pub call_later : (x : ArgumentsNode) → IsCallBelow (length m.names) (length m.exprs) x → IsCallBelow (length n.names) (length n.exprs) x × (arguments_tree n.names (shown n) x ≡ arguments_tree m.names (shown m) x)
-  call_later x h = (call_more (length m.names) (length n.names) (length m.exprs) (length n.exprs) (names_grow m n g.extends) (exprs_grow m n g.extends) x h, call_kept m n g.extends d x h)
 
   -- lists of m with one more that is there in n
   pub items_then : (xs ys : List ExprId) (x : ExprId) → AreItemsBelow (length m.exprs) xs → x.index < length n.exprs → ys ≡ xs ++ x ∷ [] → AreItemsBelow (length n.exprs) ys × (items_tree (shown n) ys ≡ with_item (items_tree (shown m) xs) (shown n x.index))

@@ -1,5 +1,4 @@
-ghost use Rattle.std.specs.Prelude.{◌≡◌, drop};
-ghost use Rattle.spec_grammar.specs.Reading.{below, atom_with};
+ghost use Rattle.std.specs.Prelude.{drop};
 ghost use Rattle.py_tree.specs.Arena.{IsModule};
 ghost use Rattle.py_expressions.specs.Given.{Grows, GivesExpr, leaf_with, text_with};
 

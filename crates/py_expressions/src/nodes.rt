@@ -1,4 +1,4 @@
-ghost use Rattle.std.specs.Prelude.{◌≡◌, ◌<◌, ◌++◌, ◌∷◌, [], length, IfOk};
+ghost use Rattle.std.specs.Prelude.{◌≡◌, ◌<◌, length, IfOk};
 ghost use Rattle.spec_grammar.specs.Grammar.{joined_tree};
 ghost use Rattle.py_tree.specs.Arena.{ArePartsThere, IsModule, shown};
 ghost use Rattle.py_tree.specs.Exprs.{AreLinksBelow, links_tree, node_tree};

@@ -1,14 +1,12 @@
-//! The heights of the expressions of a module of Python.
+//! Whether the expressions of a module of Python are higher than is admitted.
 //!
-//! [`Heights::of`] counts them in one pass over the nodes, since the parts of a node are earlier ones. No height is
-//! counted further than one above the greatest that is admitted, which is all that reading asks.
+//! The answers come from a walk over the nodes below an expression. It ends where a height above the greatest one
+//! shows, so it goes at most 101 nodes deep, and its time grows at most linearly with the size of the tree.
 #![tactic(auto)]
 
-mod heights;
 mod limits;
-mod nodes;
-mod parts;
 #[cfg(test)]
 mod tests;
+mod walk;
 
-pub use heights::Heights;
+pub use limits::{are_arguments_high, are_defaults_high, is_high, is_option_high, is_target_high};

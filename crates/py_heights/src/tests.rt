@@ -1,7 +1,8 @@
 ghost use Rattle.std.specs.Prelude.{◌<◌, ℕ, IfOk};
 ghost use Rattle.py_tree.specs.Exprs.{ArePartsBelow, IsBoundBelow, IsGeneratorBelow};
 
-use crate::Heights;
+use crate::walk::is_above;
+use crate::{are_arguments_high, are_defaults_high, is_high, is_option_high, is_target_high};
 use py_tree::{
     Argument, ArgumentsNode, ExprId, ExprNode, GeneratorNode, Link, Module, NameId, Operator, Pair,
     ParameterNode, Prefix,
@@ -195,19 +196,30 @@ fn tower(rt: &HostRuntime, module: &mut Module, height: u32) -> Result<ExprId, F
     Ok(last)
 }
 
+/// The height of an expression that is there, where it is less than 10.
+fn height_of(module: &Module, e: ExprId) -> usize {
+    if e.index < module.exprs_count() {
+        for room in 0..10 {
+            if !is_above(module, e, room) {
+                return room;
+            }
+        }
+    }
+    10
+}
+
 /// The heights of the node of a shape over two low parts, over a low one and a tall one, and the other way round.
-fn shape_heights(rt: &HostRuntime, shape: Shape) -> Result<(u8, u8, u8), Fail> {
+fn shape_heights(rt: &HostRuntime, shape: Shape) -> Result<(usize, usize, usize), Fail> {
     let mut module = Module::new(rt.alloc());
     let low = tower(rt, &mut module, 0)?;
     let tall = tower(rt, &mut module, 3)?;
     let first = add(rt, &mut module, shape, low, low)?;
     let second = add(rt, &mut module, shape, low, tall)?;
     let third = add(rt, &mut module, shape, tall, low)?;
-    let heights = Heights::of(rt.alloc(), &module)?;
     Ok((
-        heights.height(first),
-        heights.height(second),
-        heights.height(third),
+        height_of(&module, first),
+        height_of(&module, second),
+        height_of(&module, third),
     ))
 }
 
@@ -236,18 +248,59 @@ fn each_shape_is_one_above_its_highest_part(rt: HostRuntime) -> Result<(), Fail>
     Ok(())
 }
 
-/// Whether an expression of this height is high, and then whether an attribute of it is, as a target.
+/// Whether an expression that must be there is high, and then whether it is as an optional one.
+fn is_expression_high(module: &Module, e: ExprId) -> (bool, bool) {
+    if e.index < module.exprs_count() {
+        return (is_high(module, e), is_option_high(module, Some(e)));
+    }
+    (false, false)
+}
+
+/// Whether an expression of this height is high, and then whether it is as an optional one.
 fn are_high(rt: &HostRuntime, height: u32) -> Result<(bool, bool), Fail> {
     let mut module = Module::new(rt.alloc());
     let tall = tower(rt, &mut module, height)?;
-    let attribute = add(rt, &mut module, Shape::Attribute, tall, tall)?;
-    let heights = Heights::of(rt.alloc(), &module)?;
-    if attribute.index >= module.exprs_count() {
+    Ok(is_expression_high(&module, tall))
+}
+
+/// Whether a target that must be there is high.
+fn is_high_target(module: &Module, target: ExprId) -> bool {
+    target.index < module.exprs_count() && is_target_high(module, target)
+}
+
+/// Whether targets of a shape are high over an expression of this height and a low one, and the other way round.
+fn are_targets_high(rt: &HostRuntime, shape: Shape, height: u32) -> Result<(bool, bool), Fail> {
+    let mut module = Module::new(rt.alloc());
+    let low = tower(rt, &mut module, 0)?;
+    let tall = tower(rt, &mut module, height)?;
+    let first = add(rt, &mut module, shape, tall, low)?;
+    let second = add(rt, &mut module, shape, low, tall)?;
+    Ok((
+        is_high_target(&module, first),
+        is_high_target(&module, second),
+    ))
+}
+
+/// Whether an argument that must be there is high, and then whether a default is.
+fn are_uses_high(
+    rt: &HostRuntime,
+    module: &Module,
+    name: NameId,
+    value: ExprId,
+) -> Result<(bool, bool), Fail> {
+    if name.index >= module.names_count() || value.index >= module.exprs_count() {
         return Err(NoMemory.into());
     }
+    let argument = Argument { name: None, value };
+    let parameter = ParameterNode {
+        name,
+        annotation: None,
+        default: Some(value),
+    };
+    let arguments = ArgumentsNode::Listed(vec![in rt.alloc(); argument]?);
     Ok((
-        heights.is_high(tall) && heights.is_option_high(Some(tall)),
-        heights.is_target_high(&module, attribute),
+        are_arguments_high(module, &arguments),
+        are_defaults_high(module, &[parameter]),
     ))
 }
 
@@ -256,21 +309,7 @@ fn are_parts_high(rt: &HostRuntime, height: u32) -> Result<(bool, bool), Fail> {
     let mut module = Module::new(rt.alloc());
     let tall = tower(rt, &mut module, height)?;
     let name = module.add_name("x")?;
-    let heights = Heights::of(rt.alloc(), &module)?;
-    let argument = Argument {
-        name: None,
-        value: tall,
-    };
-    let parameter = ParameterNode {
-        name,
-        annotation: None,
-        default: Some(tall),
-    };
-    let arguments = ArgumentsNode::Listed(vec![in rt.alloc(); argument]?);
-    Ok((
-        heights.are_arguments_high(&arguments),
-        heights.are_defaults_high([parameter].as_slice()),
-    ))
+    are_uses_high(rt, &module, name, tall)
 }
 
 #[test]
@@ -293,6 +332,25 @@ fn heights_above_100_are_high(rt: HostRuntime) -> Result<(), Fail> {
 }
 
 #[test]
+fn a_target_counts_no_attribute_and_no_subscript_of_its_own(rt: HostRuntime) -> Result<(), Fail> {
+    for (shape, height, is_high) in [
+        (Shape::Attribute, 100, (false, false)),
+        (Shape::Attribute, 101, (true, false)),
+        (Shape::Index, 100, (false, false)),
+        (Shape::Index, 101, (true, true)),
+        (Shape::Group, 99, (false, false)),
+        (Shape::Group, 100, (true, false)),
+    ] {
+        assert_eq!(rt;
+            are_targets_high(&rt, shape, height)?,
+            is_high,
+            "{shape:?} over {height}"
+        );
+    }
+    Ok(())
+}
+
+#[test]
 fn a_long_sum_is_high(rt: HostRuntime) -> Result<(), Fail> {
     let mut module = Module::new(rt.alloc());
     let name = tower(&rt, &mut module, 0)?;
@@ -300,10 +358,7 @@ fn a_long_sum_is_high(rt: HostRuntime) -> Result<(), Fail> {
     for _ in 0..200 {
         sum = add(&rt, &mut module, Shape::Binary, sum, name)?;
     }
-    let heights = Heights::of(rt.alloc(), &module)?;
-    assert_eq!(rt;
-        (heights.is_high(name), heights.is_high(sum)),
-        (false, true)
-    );
+    assert_eq!(rt; is_expression_high(&module, name), (false, false));
+    assert_eq!(rt; is_expression_high(&module, sum), (true, true));
     Ok(())
 }

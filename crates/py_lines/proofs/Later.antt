@@ -1,19 +1,18 @@
 -- What was read keeps its trees while a module grows.
-use Rattle.std.proofs.Common.{◌≡◌, List, [], ◌∷◌, ◌++◌, length, Option, refl, ap, ◌∙◌}
+use Rattle.std.proofs.Common.{◌≡◌, ℕ, ◌<◌, List, [], ◌∷◌, ◌++◌, length, Option, refl, ap, arith, ◌∙◌}
 use Rattle.spec_trees.specs.Stmt.{Parameter}
-use Rattle.py_tree.specs.declared.ids.ExprId.{ExprId}
+use Rattle.py_tree.specs.declared.ids.NameId.{NameId}
+use Rattle.py_tree.specs.declared.ids.NamesId.{NamesId}
 use Rattle.py_tree.specs.declared.ids.TypeId.{TypeId}
 use Rattle.py_tree.specs.declared.stmts.ParameterNode.{ParameterNode}
-use Rattle.py_tree.specs.Arena.{State, IsModule, shown_type}
-use Rattle.py_tree.specs.Exprs.{IsBoundBelow}
+use Rattle.py_tree.specs.Arena.{State, Extends, IsModule, shown, shown_type}
+use Rattle.py_tree.specs.Names.{text_of}
 use Rattle.py_tree.specs.Types.{optional_type, IsTypeBelow}
-use Rattle.py_tree.specs.Stmts.{optional_expr, parameters_tree, AreParametersThere}
-use Rattle.py_tree.proofs.Arenas.{exprs_grow, types_grow, optional_type_kept}
-use Rattle.py_tree.proofs.Nodes.{bound_more}
+use Rattle.py_tree.specs.Stmts.{texts_of, parameters_tree, AreParametersThere}
+use Rattle.py_tree.proofs.Arenas.{names_grow, lists_grow, exprs_grow, types_grow, text_kept as name_text_kept, shown_kept, optional_type_kept}
 use Rattle.py_tree.proofs.TypeNodes.{optional_type_more}
-use Rattle.py_tree.proofs.StmtNodes.{optional_expr_kept, parameters_kept, parameters_there}
+use Rattle.py_tree.proofs.StmtNodes.{texts_kept, parameters_kept, parameters_there}
 use Rattle.py_statements.specs.Given.{Grows}
-use Rattle.py_statements.proofs.Later.{expr_later, text_later, texts_later}
 use Rattle.py_lines.specs.declared.nodes.HeaderNode.{HeaderNode}
 use Rattle.py_lines.specs.declared.nodes.HeaderNode.TheVariants as node
 use Rattle.py_lines.specs.Headers.{parameter_tree, header_tree, IsParameterThere, IsHeaderThere}
@@ -22,9 +21,6 @@ use Rattle.py_lines.specs.Headers.{parameter_tree, header_tree, IsParameterThere
 module _ (m n : State) (g : Grows m n) (d : IsModule m) where
   pub type_later : (x : Option TypeId) → IsTypeBelow (length m.types) x → IsTypeBelow (length n.types) x × (optional_type (shown_type n) x ≡ optional_type (shown_type m) x)
   type_later x h = (optional_type_more (length m.types) (length n.types) (types_grow m n g.extends) x h, optional_type_kept m n g.extends d x h)
-
-  pub value_later : (x : Option ExprId) → IsBoundBelow (length m.exprs) x → IsBoundBelow (length n.exprs) x × (optional_expr n x ≡ optional_expr m x)
-  value_later x h = (bound_more (length m.exprs) (length n.exprs) (exprs_grow m n g.extends) x h, optional_expr_kept m n g.extends d x h)
 
   pub parameters_later : (xs : List ParameterNode) → AreParametersThere m xs → AreParametersThere n xs × (parameters_tree n xs ≡ parameters_tree m xs)
   parameters_later xs h = (parameters_there m n g.extends xs h, parameters_kept m n g.extends d xs h)
@@ -43,20 +39,29 @@ module _ (m n : State) (g : Grows m n) (d : IsModule m) where
       parameters_pushed [] x = refl
       parameters_pushed (y ∷ xs) x = rw (parameters_pushed xs x) refl
 
-  pub header_later : (x : HeaderNode) → IsHeaderThere m x → IsHeaderThere n x × (header_tree n x ≡ header_tree m x)
-  header_later (node.Def l x ps r) h =
-      let a = text_later m n g d x h.0 in
-      let b = parameters_later ps.items h.1 in
-      let c = type_later r h.2 in
-      ((a.0, b.0, c.0), rw (a.1, b.1, c.1) refl)
-  header_later (node.Class l x) h = let a = text_later m n g d x h in (a.0, rw a.1 refl)
-  header_later (node.If l e) h = let a = expr_later m n g d e.index h in (a.0, rw a.1 refl)
-  header_later (node.Elif l e) h = let a = expr_later m n g d e.index h in (a.0, rw a.1 refl)
-  header_later (node.Else l) h = (tt, refl)
-  header_later (node.While l e) h = let a = expr_later m n g d e.index h in (a.0, rw a.1 refl)
-  header_later (node.For l x e) h =
-      let a = text_later m n g d x h.0 in
-      let b = expr_later m n g d e.index h.1 in
+-- a header of m is one of n, where all of m stands in n
+module _ (m n : State) (e : Extends m n) (d : IsModule m) where
+  text_there : (x : NameId) → x.index < length m.names → (x.index < length n.names) × (text_of n.names x ≡ text_of m.names x)
+  text_there x lt = let more = names_grow m n e in (omega arith, name_text_kept m n x.index e lt)
+
+  texts_there : (l : NamesId) → l.index < length m.lists → (l.index < length n.lists) × (texts_of n l ≡ texts_of m l)
+  texts_there l lt = let more = lists_grow m n e in (omega arith, texts_kept m n e d l lt)
+
+  expr_there : (i : ℕ) → i < length m.exprs → (i < length n.exprs) × (shown n i ≡ shown m i)
+  expr_there i lt = let more = exprs_grow m n e in (omega arith, shown_kept m n i e d lt)
+
+  pub header_kept : (x : HeaderNode) → IsHeaderThere m x → IsHeaderThere n x × (header_tree n x ≡ header_tree m x)
+  header_kept (node.Def l x ps r) h =
+      let a = text_there x h.0 in
+      ((a.0, parameters_there m n e ps.items h.1, optional_type_more (length m.types) (length n.types) (types_grow m n e) r h.2), rw (a.1, parameters_kept m n e d ps.items h.1, optional_type_kept m n e d r h.2) refl)
+  header_kept (node.Class l x) h = let a = text_there x h in (a.0, rw a.1 refl)
+  header_kept (node.If l c) h = let a = expr_there c.index h in (a.0, rw a.1 refl)
+  header_kept (node.Elif l c) h = let a = expr_there c.index h in (a.0, rw a.1 refl)
+  header_kept (node.Else l) h = (tt, refl)
+  header_kept (node.While l c) h = let a = expr_there c.index h in (a.0, rw a.1 refl)
+  header_kept (node.For l x c) h =
+      let a = text_there x h.0 in
+      let b = expr_there c.index h.1 in
       ((a.0, b.0), rw (a.1, b.1) refl)
-  header_later (node.Try l) h = (tt, refl)
-  header_later (node.Except l xs) h = let a = texts_later m n g d xs h in (a.0, rw a.1 refl)
+  header_kept (node.Try l) h = (tt, refl)
+  header_kept (node.Except l xs) h = let a = texts_there xs h in (a.0, rw a.1 refl)

@@ -1,4 +1,4 @@
-ghost use Rattle.std.specs.Prelude.{◌≡◌, drop};
+ghost use Rattle.std.specs.Prelude.{drop};
 ghost use Rattle.spec_grammar.specs.declared.Mark.TheVariants as mark;
 ghost use Rattle.spec_grammar.specs.Marks.{sign_at};
 ghost use Rattle.spec_grammar.specs.HeaderReading.{brackets_at, def_of, class_of, for_of, read_caught, except_of, headed_of, read_header};
@@ -38,7 +38,7 @@ fn brackets(words: &LineWords, pos: usize) -> Option<usize>
 }
 
 // An expression, and the place behind the colon that follows it.
-#[tactic(auto, using(py_statements::proofs::Growth::grows_same, py_statements::proofs::Growth::grows_expressions))]
+#[tactic(auto, using(py_statements::proofs::Growth::grows_same, py_statements::proofs::Growth::plain_same, py_statements::proofs::Growth::grows_expressions, py_statements::proofs::Growth::plain_expressions))]
 fn last_expression(
     alloc: Global,
     words: &LineWords,
@@ -55,7 +55,7 @@ fn last_expression(
 }
 
 // The header of a function, behind the `def` on a line.
-#[tactic(auto, using(py_statements::proofs::Growth::grows_then, py_statements::proofs::Growth::grows_same))]
+#[tactic(auto, using(py_statements::proofs::Growth::grows_then, py_statements::proofs::Growth::plain_then, py_statements::proofs::Growth::grows_same, py_statements::proofs::Growth::plain_same))]
 fn def(
     alloc: Global,
     words: &LineWords,
@@ -87,7 +87,7 @@ fn def(
 }
 
 // The header of a class, behind the `class` on a line.
-#[tactic(auto, using(py_statements::proofs::Growth::grows_same))]
+#[tactic(auto, using(py_statements::proofs::Growth::grows_same, py_statements::proofs::Growth::plain_same))]
 fn class(
     words: &LineWords,
     into: &mut Module,
@@ -110,7 +110,7 @@ fn class(
 }
 
 // The header of a loop over items, behind the `for` on a line.
-#[tactic(auto, using(py_statements::proofs::Growth::grows_then, py_statements::proofs::Growth::grows_same))]
+#[tactic(auto, using(py_statements::proofs::Growth::grows_then, py_statements::proofs::Growth::plain_then, py_statements::proofs::Growth::grows_same, py_statements::proofs::Growth::plain_same))]
 fn for_loop(
     alloc: Global,
     words: &LineWords,
@@ -139,7 +139,7 @@ fn for_loop(
 }
 
 // The classes behind an `except`: one name, names in brackets, or none.
-#[tactic(auto, using(py_statements::proofs::Growth::grows_then, py_statements::proofs::Growth::grows_same))]
+#[tactic(auto, using(py_statements::proofs::Growth::grows_then, py_statements::proofs::Growth::plain_then, py_statements::proofs::Growth::grows_same, py_statements::proofs::Growth::plain_same))]
 fn caught(
     alloc: Global,
     words: &LineWords,
@@ -161,7 +161,7 @@ fn caught(
 }
 
 // The header of a handler, behind the `except` on a line.
-#[tactic(auto, using(py_statements::proofs::Growth::grows_then, py_statements::proofs::Growth::grows_same))]
+#[tactic(auto, using(py_statements::proofs::Growth::grows_then, py_statements::proofs::Growth::plain_then, py_statements::proofs::Growth::grows_same, py_statements::proofs::Growth::plain_same))]
 fn except(
     alloc: Global,
     words: &LineWords,
@@ -179,7 +179,7 @@ fn except(
 }
 
 // The header that a sign on a line begins, from the place behind the sign.
-#[tactic(auto, using(py_statements::proofs::Growth::grows_same))]
+#[tactic(auto, using(py_statements::proofs::Growth::grows_same, py_statements::proofs::Growth::plain_same))]
 fn headed(
     alloc: Global,
     words: &LineWords,
@@ -221,7 +221,7 @@ fn headed(
 /// # Errors
 ///
 /// `NoForm` exactly where they begin with none, and `NoMemory` where there is no memory for its parts.
-#[tactic(auto, using(py_statements::proofs::Growth::grows_same))]
+#[tactic(auto, using(py_statements::proofs::Growth::grows_same, py_statements::proofs::Growth::plain_same))]
 pub fn read_header(
     alloc: Global,
     words: &LineWords,

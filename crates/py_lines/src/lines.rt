@@ -1,4 +1,4 @@
-ghost use Rattle.std.specs.Prelude.{◌≡◌, drop};
+ghost use Rattle.std.specs.Prelude.{drop};
 ghost use Rattle.spec_grammar.specs.HeaderReading.{headed_line, read_line};
 ghost use Rattle.py_tree.specs.Arena.{IsModule};
 ghost use Rattle.py_statements.specs.Given.{Grows};
@@ -13,7 +13,7 @@ use py_words::{LineWords, Unread};
 use std::alloc::Global;
 
 // A header with the statement behind it, where words are left.
-#[tactic(auto, using(py_statements::proofs::Growth::grows_same))]
+#[tactic(auto, using(py_statements::proofs::Growth::grows_same, py_statements::proofs::Growth::plain_same))]
 fn headed_line(
     alloc: Global,
     words: &LineWords,
@@ -38,7 +38,7 @@ fn headed_line(
 /// # Errors
 ///
 /// `NoForm` exactly where they spell none, and `NoMemory` where there is no memory for its parts.
-#[tactic(auto, using(py_statements::proofs::Growth::grows_then))]
+#[tactic(auto, using(py_statements::proofs::Growth::grows_then, py_statements::proofs::Growth::plain_then))]
 pub fn read_line(alloc: Global, words: &LineWords, into: &mut Module) -> Result<LineNode, Unread>
     ensures grown { Grows into.old into.new }
     ensures read { GivesLine into.new result (read_line words.now) }

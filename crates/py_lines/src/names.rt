@@ -7,7 +7,7 @@ use py_tree::{Module, NameId, NamesId};
 use xh_outside::NoMemory;
 
 /// Adds a name, where it is not there yet.
-#[tactic(auto, using(py_statements::proofs::Growth::grows_name, py_statements::proofs::Growth::grows_equal, py_statements::proofs::Growth::text_found))]
+#[tactic(auto, using(py_statements::proofs::Growth::grows_name, py_statements::proofs::Growth::plain_name, py_statements::proofs::Growth::grows_equal, py_statements::proofs::Growth::plain_equal, py_statements::proofs::Growth::text_found))]
 pub(crate) fn add_name(into: &mut Module, text: &str) -> Result<NameId, NoMemory>
     ensures grown { Grows into.old into.new }
     ensures there { IfOk result (λ n. n.index < length into.new.names) }
@@ -17,7 +17,7 @@ pub(crate) fn add_name(into: &mut Module, text: &str) -> Result<NameId, NoMemory
 }
 
 /// Adds a list of names that are there.
-#[tactic(auto, using(py_statements::proofs::Growth::grows_list, py_statements::proofs::Growth::grows_equal, py_statements::proofs::Growth::texts_added))]
+#[tactic(auto, using(py_statements::proofs::Growth::grows_list, py_statements::proofs::Growth::plain_list, py_statements::proofs::Growth::grows_equal, py_statements::proofs::Growth::plain_equal, py_statements::proofs::Growth::texts_added))]
 pub(crate) fn add_names(into: &mut Module, names: &[NameId]) -> Result<NamesId, NoMemory>
     requires names { AreNamesBelow (length into.old.names) names.now }
     ensures grown { Grows into.old into.new }

@@ -12,7 +12,7 @@ use py_words::{LineWords, Mark, Unread};
 use std::alloc::Global;
 
 /// The type behind a mark, where the mark stands at the place.
-#[tactic(auto, using(py_statements::proofs::Growth::grows_same, py_statements::proofs::Growth::grows_types))]
+#[tactic(auto, using(py_statements::proofs::Growth::grows_same, py_statements::proofs::Growth::plain_same, py_statements::proofs::Growth::grows_types, py_statements::proofs::Growth::plain_types))]
 pub(crate) fn type_behind(
     alloc: Global,
     words: &LineWords,
@@ -32,7 +32,7 @@ pub(crate) fn type_behind(
 }
 
 // A name with the type and the default behind it, where they are there.
-#[tactic(auto, using(py_statements::proofs::Growth::grows_then, py_statements::proofs::Growth::grows_same))]
+#[tactic(auto, using(py_statements::proofs::Growth::grows_then, py_statements::proofs::Growth::plain_then, py_statements::proofs::Growth::grows_same, py_statements::proofs::Growth::plain_same))]
 fn parameter(
     alloc: Global,
     words: &LineWords,
@@ -65,7 +65,7 @@ fn room_behind(words: &LineWords, pos: usize) -> usize
 }
 
 /// The parameters behind an opening bracket, and the place behind the bracket that closes them.
-#[tactic(auto, using(py_statements::proofs::Growth::grows_then, py_statements::proofs::Growth::grows_same))]
+#[tactic(auto, using(py_statements::proofs::Growth::grows_then, py_statements::proofs::Growth::plain_then, py_statements::proofs::Growth::grows_same, py_statements::proofs::Growth::plain_same))]
 pub(crate) fn parameters(
     alloc: Global,
     words: &LineWords,

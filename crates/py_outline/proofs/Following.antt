@@ -14,10 +14,6 @@ pub record Shows (ks os : List Outline) : Type 0 where
   pub next : first_item ks ≡ first_item os
   pub deeper : (d : ℕ) → first_item (from_next d ks) ≡ first_item (from_next d os)
 
--- where no line is left, none is found
-pub shows_none : Shows [] []
-shows_none = record { next = refl; deeper = λ d. refl }
-
 -- the same behind the block of a line
 pub shows_past : (o : Outline) (ks os : List Outline) → Shows ks os → first_item (past_block o ks) ≡ first_item (past_block o os)
 shows_past o ks os s = by_block (awaits_block o.form)

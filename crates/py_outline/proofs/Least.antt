@@ -9,10 +9,6 @@ min_assoc a b c = omega arith
 min_comm : (a b : ℕ) → min a b ≡ min b a
 min_comm a b = omega arith
 
-pub least_none : (a : Option ℕ) → least a None ≡ a
-least_none None = refl
-least_none (Some n) = refl
-
 pub least_comm : (a b : Option ℕ) → least a b ≡ least b a
 least_comm None None = refl
 least_comm None (Some m) = refl

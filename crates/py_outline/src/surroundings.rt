@@ -1,7 +1,6 @@
-ghost use Rattle.std.specs.Prelude.{◌≡◌, not, ◌||◌, ◌&&◌, [], OnOk, IfOk};
+ghost use Rattle.std.specs.Prelude.{◌≡◌, ◌||◌, ◌&&◌, [], OnOk, IfOk};
 ghost use Rattle.spec_syntax.specs.Placement.{smallest};
-ghost use Rattle.py_outline.specs.Surroundings.{of_module, is_def, is_loop, is_handler, is_module, is_inner, place_inside, inside, allows_simple, allows_header, allows, innermost, outer, round_behind, place_faults};
-ghost use Rattle.py_outline.specs.Told.{least};
+ghost use Rattle.py_outline.specs.Surroundings.{is_def, is_loop, is_handler, place_inside, inside, allows_simple, allows_header, allows, innermost, round_behind, place_faults};
 
 use crate::stack::Stack;
 use crate::told::with_fault;

@@ -1,5 +1,5 @@
 -- What reading leaves behind and answers, beside what the definition reads.
-use Rattle.std.specs.Prelude.{◌≡◌, ℕ, ◌<◌, Bool, true, false, List, [], ◌∷◌, length, drop, map, Option, Some, Result, Ok, Err}
+use Rattle.std.specs.Prelude.{◌≡◌, ℕ, zero, suc, ◌<◌, Bool, true, false, List, [], ◌∷◌, length, drop, map, Option, Some, Result, Ok, Err}
 use Rattle.std.specs.Option.{option_map}
 use Rattle.spec_trees.specs.Expr.{Expr}
 use Rattle.spec_trees.specs.Stmt.{Simple, assign, augment}
@@ -11,6 +11,8 @@ use Rattle.py_tree.specs.declared.ids.ExprId.{ExprId}
 use Rattle.py_tree.specs.declared.ids.NameId.{NameId}
 use Rattle.py_tree.specs.declared.ids.NamesId.{NamesId}
 use Rattle.py_tree.specs.declared.ids.StmtId.{StmtId}
+use Rattle.py_tree.specs.declared.stmts.StmtNode.{StmtNode}
+use Rattle.py_tree.specs.declared.stmts.StmtNode.TheVariants as node
 use Rattle.py_tree.specs.Arena.{State, Extends, IsModule, shown, shown_stmt}
 use Rattle.py_tree.specs.Names.{text_of, AreNamesBelow}
 use Rattle.py_tree.specs.Exprs.{IsBoundBelow}
@@ -18,9 +20,26 @@ use Rattle.py_tree.specs.Stmts.{texts_of, optional_expr}
 use Rattle.py_words.specs.declared.unread.Unread.{Unread}
 use Rattle.py_words.specs.Found.{Fails}
 
--- nothing is added to the statements of the module itself
+-- a statement that is no function and no class
+abbrev pub IsPlain : StmtNode → Type 0
+IsPlain (node.Def l k x ps r b) = ⊥
+IsPlain (node.Class l k x b) = ⊥
+IsPlain _ = Unit {0}
+
+-- each statement behind the first k is plain
+abbrev pub ArePlainBehind : ℕ → List StmtNode → Type 0
+ArePlainBehind k [] = Unit {0}
+ArePlainBehind zero (x ∷ xs) = IsPlain x × ArePlainBehind zero xs
+ArePlainBehind (suc k) (x ∷ xs) = ArePlainBehind k xs
+
+-- the statements that are added are no functions and no classes
+unfoldable pub AddsPlain : State → State → Type 0
+AddsPlain m n = ArePlainBehind (length m.stmts) n.stmts
+
+-- no function and no class is added, and nothing to the statements of the module itself
 pub record Grows (m n : State) : Type 0 where
   pub extends : Extends m n
+  pub plain : AddsPlain m n
   pub tops : n.tops ≡ m.tops
   pub valid : IsModule n
 

@@ -1,4 +1,4 @@
-ghost use Rattle.std.specs.Prelude.{◌≡◌, ◌<◌, length, drop};
+ghost use Rattle.std.specs.Prelude.{◌<◌, length, drop};
 ghost use Rattle.spec_grammar.specs.StatementReading.{evaluate_of, annotate_of, targeted_of, unmarked_of};
 ghost use Rattle.py_tree.specs.Arena.{IsModule, shown};
 ghost use Rattle.py_statements.specs.Given.{Grows, GivesSimple, assign_of, augment_of};
@@ -12,7 +12,7 @@ use py_words::{LineWords, Mark, Unread};
 use std::alloc::Global;
 
 // An expression that is a statement.
-#[tactic(auto, using(crate::proofs::Growth::grows_then))]
+#[tactic(auto, using(crate::proofs::Growth::grows_then, crate::proofs::Growth::plain_then))]
 fn evaluate(
     alloc: Global,
     words: &LineWords,
@@ -28,7 +28,7 @@ fn evaluate(
 }
 
 // What follows the `=` behind a target, in a statement that begins on a line.
-#[tactic(auto, using(crate::proofs::Growth::grows_then))]
+#[tactic(auto, using(crate::proofs::Growth::grows_then, crate::proofs::Growth::plain_then))]
 fn assign(
     alloc: Global,
     words: &LineWords,
@@ -52,7 +52,7 @@ fn assign(
 }
 
 // What follows the colon behind a target, in a statement that begins on a line.
-#[tactic(auto, using(crate::proofs::Growth::grows_then))]
+#[tactic(auto, using(crate::proofs::Growth::grows_then, crate::proofs::Growth::plain_then))]
 fn annotate(
     alloc: Global,
     words: &LineWords,
@@ -81,7 +81,7 @@ fn annotate(
 }
 
 // What follows the sign of an augmented assignment behind a target, in a statement that begins on a line.
-#[tactic(auto, using(crate::proofs::Growth::grows_then))]
+#[tactic(auto, using(crate::proofs::Growth::grows_then, crate::proofs::Growth::plain_then))]
 fn augment(
     alloc: Global,
     words: &LineWords,
@@ -135,7 +135,7 @@ fn targeted(
 }
 
 /// The statement that the words from a place on spell, where no keyword of a statement begins it.
-#[tactic(auto, using(crate::proofs::Growth::grows_then))]
+#[tactic(auto, using(crate::proofs::Growth::grows_then, crate::proofs::Growth::plain_then))]
 pub(crate) fn unmarked(
     alloc: Global,
     words: &LineWords,

@@ -1,8 +1,7 @@
-ghost use Rattle.std.specs.Prelude.{◌≡◌, drop};
+ghost use Rattle.std.specs.Prelude.{drop};
 ghost use Rattle.spec_grammar.specs.Reading.{expr_of, read_expr};
 ghost use Rattle.spec_grammar.specs.TypeReading.{read_type};
 ghost use Rattle.spec_grammar.specs.StatementReading.{read_prim, read_arguments, read_value};
-ghost use Rattle.py_tree.specs.Arena.{IsModule};
 ghost use Rattle.py_expressions.specs.Given.{GivesExpr, GivesArguments};
 ghost use Rattle.py_types.specs.Given.{GivesType};
 ghost use Rattle.py_statements.specs.Given.{Grows, GivesValue, GivesWhole};
@@ -15,7 +14,7 @@ use py_words::{LineWords, Mark, Unread};
 use std::alloc::Global;
 
 /// The expression that the words at a place begin with, and the place behind it.
-#[tactic(auto, using(crate::proofs::Growth::grows_expressions))]
+#[tactic(auto, using(crate::proofs::Growth::grows_expressions, crate::proofs::Growth::plain_expressions))]
 pub(crate) fn expression(
     alloc: Global,
     words: &LineWords,
@@ -29,7 +28,7 @@ pub(crate) fn expression(
 }
 
 /// The primary that the words at a place begin with, and the place behind it.
-#[tactic(auto, using(crate::proofs::Growth::grows_expressions))]
+#[tactic(auto, using(crate::proofs::Growth::grows_expressions, crate::proofs::Growth::plain_expressions))]
 pub(crate) fn primary(
     alloc: Global,
     words: &LineWords,
@@ -43,7 +42,7 @@ pub(crate) fn primary(
 }
 
 /// The arguments behind an opening bracket, and the place behind the bracket that closes them.
-#[tactic(auto, using(crate::proofs::Growth::grows_expressions))]
+#[tactic(auto, using(crate::proofs::Growth::grows_expressions, crate::proofs::Growth::plain_expressions))]
 pub(crate) fn call_arguments(
     alloc: Global,
     words: &LineWords,
@@ -57,7 +56,7 @@ pub(crate) fn call_arguments(
 }
 
 /// The type that the words at a place begin with, and the place behind it.
-#[tactic(auto, using(crate::proofs::Growth::grows_types))]
+#[tactic(auto, using(crate::proofs::Growth::grows_types, crate::proofs::Growth::plain_types))]
 pub(crate) fn annotation(
     alloc: Global,
     words: &LineWords,
@@ -93,7 +92,7 @@ pub(crate) fn whole_expression(
 ///
 /// `NoForm` exactly where a `=` stands there with no expression behind it, and `NoMemory` where there is no memory for its
 /// nodes.
-#[tactic(auto, using(crate::proofs::Growth::grows_same))]
+#[tactic(auto, using(crate::proofs::Growth::grows_same, crate::proofs::Growth::plain_same))]
 pub fn read_value(
     alloc: Global,
     words: &LineWords,

@@ -5,7 +5,7 @@ ghost use Rattle.spec_grammar.specs.StatementReading.{return_of, alone, message_
 ghost use Rattle.py_tree.specs.Arena.{IsModule, shown, shown_stmt};
 ghost use Rattle.py_tree.specs.Names.{text_of};
 ghost use Rattle.py_tree.specs.Stmts.{stmt_tree, AreStmtPartsThere};
-ghost use Rattle.py_statements.specs.Given.{Grows, GivesSimple};
+ghost use Rattle.py_statements.specs.Given.{Grows, IsPlain, GivesSimple};
 
 use crate::ends::at_end;
 use crate::expressions::{call_arguments, expression, primary, whole_expression};
@@ -17,7 +17,7 @@ use py_words::{LineWords, Mark, Unread};
 use std::alloc::Global;
 
 /// What follows a `return`, which stands on a line.
-#[tactic(auto, using(crate::proofs::Growth::grows_then, crate::proofs::Growth::grows_same))]
+#[tactic(auto, using(crate::proofs::Growth::grows_then, crate::proofs::Growth::plain_then, crate::proofs::Growth::grows_same, crate::proofs::Growth::plain_same))]
 pub(crate) fn return_statement(
     alloc: Global,
     words: &LineWords,
@@ -40,7 +40,7 @@ pub(crate) fn return_statement(
 }
 
 /// The statement of a keyword behind which nothing may stand.
-#[tactic(auto, using(crate::proofs::Growth::grows_then, crate::proofs::Growth::grows_same))]
+#[tactic(auto, using(crate::proofs::Growth::grows_then, crate::proofs::Growth::plain_then, crate::proofs::Growth::grows_same, crate::proofs::Growth::plain_same))]
 pub(crate) fn alone(
     words: &LineWords,
     into: &mut Module,
@@ -49,6 +49,7 @@ pub(crate) fn alone(
 ) -> Result<StmtId, Unread>
     requires module { IsModule into.old }
     requires parts { AreStmtPartsThere into.old node }
+    requires plain { IsPlain node }
     ensures grown { Grows into.old into.new }
     ensures read { (d : Simple) → stmt_tree into.old (shown_stmt into.old) node ≡ tree.simple d → GivesSimple into.new result (alone d (drop pos words.now)) }
 {
@@ -59,7 +60,7 @@ pub(crate) fn alone(
 }
 
 /// What follows an `assert`, which stands on a line.
-#[tactic(auto, using(crate::proofs::Growth::grows_then, crate::proofs::Growth::grows_same))]
+#[tactic(auto, using(crate::proofs::Growth::grows_then, crate::proofs::Growth::plain_then, crate::proofs::Growth::grows_same, crate::proofs::Growth::plain_same))]
 pub(crate) fn assert_statement(
     alloc: Global,
     words: &LineWords,
@@ -75,7 +76,7 @@ pub(crate) fn assert_statement(
 }
 
 // What follows the condition of an `assert`.
-#[tactic(auto, using(crate::proofs::Growth::grows_then, crate::proofs::Growth::grows_same))]
+#[tactic(auto, using(crate::proofs::Growth::grows_then, crate::proofs::Growth::plain_then, crate::proofs::Growth::grows_same, crate::proofs::Growth::plain_same))]
 fn asserted(
     alloc: Global,
     words: &LineWords,
@@ -110,7 +111,7 @@ fn asserted(
 }
 
 /// What follows a `raise`, which stands on a line.
-#[tactic(auto, using(crate::proofs::Growth::grows_then, crate::proofs::Growth::grows_same))]
+#[tactic(auto, using(crate::proofs::Growth::grows_then, crate::proofs::Growth::plain_then, crate::proofs::Growth::grows_same, crate::proofs::Growth::plain_same))]
 pub(crate) fn raise_statement(
     alloc: Global,
     words: &LineWords,
@@ -133,7 +134,7 @@ pub(crate) fn raise_statement(
 }
 
 // What follows the class of a `raise`.
-#[tactic(auto, using(crate::proofs::Growth::grows_then, crate::proofs::Growth::grows_same))]
+#[tactic(auto, using(crate::proofs::Growth::grows_then, crate::proofs::Growth::plain_then, crate::proofs::Growth::grows_same, crate::proofs::Growth::plain_same))]
 fn raised(
     alloc: Global,
     words: &LineWords,
@@ -171,7 +172,7 @@ fn raised(
 }
 
 /// What follows a `del`, which stands on a line.
-#[tactic(auto, using(crate::proofs::Growth::grows_then))]
+#[tactic(auto, using(crate::proofs::Growth::grows_then, crate::proofs::Growth::plain_then))]
 pub(crate) fn delete_statement(
     alloc: Global,
     words: &LineWords,
@@ -193,7 +194,7 @@ pub(crate) fn delete_statement(
 }
 
 /// What follows an `import` that begins a statement, which stands on a line.
-#[tactic(auto, using(crate::proofs::Growth::grows_then))]
+#[tactic(auto, using(crate::proofs::Growth::grows_then, crate::proofs::Growth::plain_then))]
 pub(crate) fn import_statement(
     alloc: Global,
     words: &LineWords,
@@ -212,7 +213,7 @@ pub(crate) fn import_statement(
 }
 
 /// What follows a `from`, which stands on a line.
-#[tactic(auto, using(crate::proofs::Growth::grows_then, crate::proofs::Growth::grows_same))]
+#[tactic(auto, using(crate::proofs::Growth::grows_then, crate::proofs::Growth::plain_then, crate::proofs::Growth::grows_same, crate::proofs::Growth::plain_same))]
 pub(crate) fn from_statement(
     alloc: Global,
     words: &LineWords,

@@ -25,7 +25,7 @@ fn next_name(words: &LineWords, separator: Mark, pos: usize) -> Option<(&str, us
 }
 
 // The names from `first` on, each further one behind a separator.
-#[tactic(auto, using(crate::proofs::Growth::grows_then, crate::proofs::Growth::grows_same))]
+#[tactic(auto, using(crate::proofs::Growth::grows_then, crate::proofs::Growth::plain_then, crate::proofs::Growth::grows_same, crate::proofs::Growth::plain_same))]
 fn more_names(
     alloc: Global,
     words: &LineWords,
@@ -59,7 +59,7 @@ fn more_names(
 /// # Errors
 ///
 /// `NoForm` exactly where no name stands at the place, and `NoMemory` where there is no memory for the names.
-#[tactic(auto, using(crate::proofs::Growth::grows_then, crate::proofs::Growth::grows_same))]
+#[tactic(auto, using(crate::proofs::Growth::grows_then, crate::proofs::Growth::plain_then, crate::proofs::Growth::grows_same, crate::proofs::Growth::plain_same))]
 pub fn read_names(
     alloc: Global,
     words: &LineWords,

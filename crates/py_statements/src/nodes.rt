@@ -1,16 +1,17 @@
 ghost use Rattle.std.specs.Prelude.{◌≡◌, ◌<◌, length, map, IfOk};
-ghost use Rattle.py_tree.specs.Arena.{IsModule, shown_stmt};
+ghost use Rattle.py_tree.specs.Arena.{shown_stmt};
 ghost use Rattle.py_tree.specs.Names.{text_of, AreNamesBelow};
 ghost use Rattle.py_tree.specs.Stmts.{texts_of, stmt_tree, AreStmtPartsThere};
-ghost use Rattle.py_statements.specs.Given.{Grows};
+ghost use Rattle.py_statements.specs.Given.{Grows, IsPlain};
 
 use py_tree::{Module, NameId, NamesId, StmtId, StmtNode};
 use xh_outside::NoMemory;
 
-/// Adds a statement whose parts are there.
-#[tactic(auto, using(crate::proofs::Growth::grows_stmt, crate::proofs::Growth::grows_equal))]
+/// Adds a statement whose parts are there and that is no function and no class.
+#[tactic(auto, using(crate::proofs::Growth::grows_stmt, crate::proofs::Growth::plain_stmt, crate::proofs::Growth::grows_equal, crate::proofs::Growth::plain_equal))]
 pub(crate) fn add(into: &mut Module, node: StmtNode) -> Result<StmtId, NoMemory>
     requires parts { AreStmtPartsThere into.old node }
+    requires plain { IsPlain node }
     ensures grown { Grows into.old into.new }
     ensures there { IfOk result (λ s. s.index < length into.new.stmts) }
     ensures tree { IfOk result (λ s. shown_stmt into.new s.index ≡ stmt_tree into.old (shown_stmt into.old) node) }
@@ -19,7 +20,7 @@ pub(crate) fn add(into: &mut Module, node: StmtNode) -> Result<StmtId, NoMemory>
 }
 
 /// Adds a name, where it is not there yet.
-#[tactic(auto, using(crate::proofs::Growth::grows_name, crate::proofs::Growth::grows_equal, crate::proofs::Growth::text_found))]
+#[tactic(auto, using(crate::proofs::Growth::grows_name, crate::proofs::Growth::plain_name, crate::proofs::Growth::grows_equal, crate::proofs::Growth::plain_equal, crate::proofs::Growth::text_found))]
 pub(crate) fn add_name(into: &mut Module, text: &str) -> Result<NameId, NoMemory>
     ensures grown { Grows into.old into.new }
     ensures there { IfOk result (λ n. n.index < length into.new.names) }
@@ -29,7 +30,7 @@ pub(crate) fn add_name(into: &mut Module, text: &str) -> Result<NameId, NoMemory
 }
 
 /// Adds a list of names that are there.
-#[tactic(auto, using(crate::proofs::Growth::grows_list, crate::proofs::Growth::grows_equal, crate::proofs::Growth::texts_added))]
+#[tactic(auto, using(crate::proofs::Growth::grows_list, crate::proofs::Growth::plain_list, crate::proofs::Growth::grows_equal, crate::proofs::Growth::plain_equal, crate::proofs::Growth::texts_added))]
 pub(crate) fn add_names(into: &mut Module, names: &[NameId]) -> Result<NamesId, NoMemory>
     requires names { AreNamesBelow (length into.old.names) names.now }
     ensures grown { Grows into.old into.new }

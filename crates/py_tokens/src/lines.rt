@@ -32,24 +32,24 @@ fn opens(bracket: Bracket, kind: Kind) -> bool
 }
 
 /// Whether a closing bracket matches the innermost one that is open.
-fn is_match(bracket: Bracket, open: &Stack<Piece>) -> bool
-    ensures { result ≡ matches bracket open.now }
+fn is_match(bracket: Bracket, brackets: &Stack<Piece>) -> bool
+    ensures { result ≡ matches bracket brackets.now }
 {
-    match open.first() {
+    match brackets.first() {
         Some(piece) => opens(bracket, piece.kind),
         None => false,
     }
 }
 
 /// Opens or closes what a piece opens or closes.
-fn pass(open: &mut Stack<Piece>, piece: Piece) -> Result<(), NoMemory>
-    ensures { OnOk result (open.new ≡ open_behind open.old piece piece.kind) }
+fn pass(brackets: &mut Stack<Piece>, piece: Piece) -> Result<(), NoMemory>
+    ensures { OnOk result (brackets.new ≡ open_behind brackets.old piece piece.kind) }
 {
     match piece.kind {
-        Kind::Open(_) => open.push(piece),
+        Kind::Open(_) => brackets.push(piece),
         Kind::Close(bracket) => {
-            if is_match(bracket, open) {
-                open.pop();
+            if is_match(bracket, brackets) {
+                brackets.pop();
             }
             Ok(())
         }
@@ -58,20 +58,20 @@ fn pass(open: &mut Stack<Piece>, piece: Piece) -> Result<(), NoMemory>
 }
 
 /// The fault of a closing bracket that does not match.
-fn bracket_fault(open: &Stack<Piece>, kind: Kind) -> Option<Fault>
-    ensures { result ≡ bracket_fault open.now kind }
+fn bracket_fault(brackets: &Stack<Piece>, kind: Kind) -> Option<Fault>
+    ensures { result ≡ bracket_fault brackets.now kind }
 {
     match kind {
-        Kind::Close(bracket) if !is_match(bracket, open) => Some(Fault::OpenBracket),
+        Kind::Close(bracket) if !is_match(bracket, brackets) => Some(Fault::OpenBracket),
         _ => None,
     }
 }
 
 /// Of refusals so far and that of the innermost bracket that is left open, the one that is told.
-fn with_left_open(first: Option<Refusal>, open: &Stack<Piece>) -> Option<Refusal>
-    ensures { result ≡ earlier first (first_of (left_open open.now)) }
+fn with_left_open(first: Option<Refusal>, brackets: &Stack<Piece>) -> Option<Refusal>
+    ensures { result ≡ earlier first (first_of (left_open brackets.now)) }
 {
-    match open.first() {
+    match brackets.first() {
         Some(piece) => earlier(
             first,
             Refusal {
@@ -92,22 +92,22 @@ pub(crate) fn with_brackets(
     ensures { IfOk result (λ o. o ≡ earlier first (first_of (bracket_refusals [] pieces.now))) }
 {
     let mut told = first;
-    let mut open = Stack::new(alloc);
+    let mut brackets = Stack::new(alloc);
     let mut rest = pieces;
     while let Some((piece, after)) = rest.split_first() {
-        told = with_fault(told, bracket_fault(&open, piece.kind), piece.line);
-        pass(&mut open, *piece)?;
+        told = with_fault(told, bracket_fault(&brackets, piece.kind), piece.line);
+        pass(&mut brackets, *piece)?;
         rest = after;
     }
-    Ok(with_left_open(told, &open))
+    Ok(with_left_open(told, &brackets))
 }
 
 /// Whether a piece ends a logical line.
-fn ends_line(open: &Stack<Piece>, kind: Kind) -> bool
-    ensures { result ≡ ends_line open.now kind }
+fn ends_line(brackets: &Stack<Piece>, kind: Kind) -> bool
+    ensures { result ≡ ends_line brackets.now kind }
 {
     match kind {
-        Kind::LineEnd => open.is_empty(),
+        Kind::LineEnd => brackets.is_empty(),
         _ => false,
     }
 }
@@ -117,15 +117,15 @@ fn line_size(alloc: Global, pieces: &[Piece]) -> Result<usize, NoMemory>
     ensures size { IfOk result (λ n. n ≡ line_size [] pieces.now) }
     ensures within { IfOk result (λ n. n ≤ length pieces.now) }
 {
-    let mut open = Stack::new(alloc);
+    let mut brackets = Stack::new(alloc);
     let mut size = 0;
     let mut rest = pieces;
     while let Some((piece, after)) = rest.split_first() {
         size += 1;
-        if ends_line(&open, piece.kind) {
+        if ends_line(&brackets, piece.kind) {
             return Ok(size);
         }
-        pass(&mut open, *piece)?;
+        pass(&mut brackets, *piece)?;
         rest = after;
     }
     Ok(size)

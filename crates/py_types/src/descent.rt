@@ -1,4 +1,4 @@
-ghost use Rattle.std.specs.Prelude.{◌≡◌, ◌<◌, ◌-◌, length, drop};
+ghost use Rattle.std.specs.Prelude.{◌<◌, ◌-◌, length, drop};
 ghost use Rattle.spec_trees.specs.Stmt.{no_types, type_item};
 ghost use Rattle.spec_grammar.specs.TypeReading.{members_with, type_arguments_with, type_below};
 ghost use Rattle.py_tree.specs.Arena.{IsModule, shown_type};

@@ -1,5 +1,4 @@
-ghost use Rattle.std.specs.Prelude.{◌≡◌, drop};
-ghost use Rattle.spec_grammar.specs.Marks.{sign_at};
+ghost use Rattle.std.specs.Prelude.{drop};
 ghost use Rattle.py_tree.specs.Arena.{IsModule};
 ghost use Rattle.py_types.specs.Given.{Grows, GivesType, leaf_with};
 

@@ -1,4 +1,4 @@
-ghost use Rattle.std.specs.Prelude.{◌≡◌, drop};
+ghost use Rattle.std.specs.Prelude.{drop};
 ghost use Rattle.spec_grammar.specs.TypeReading.{read_type};
 ghost use Rattle.py_types.specs.Given.{Grows, GivesType};
 

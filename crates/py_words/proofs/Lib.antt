@@ -3,3 +3,4 @@ pub mod Signs
 pub mod Literals
 pub mod TokenKinds
 pub mod LogicalLines
+pub mod Moving

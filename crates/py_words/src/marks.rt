@@ -1,5 +1,5 @@
 ghost use Rattle.std.specs.Prelude.{◌≡◌, drop};
-ghost use Rattle.spec_grammar.specs.Marks.{code_of, sign_at, level_of, operator_of, first_operator, operator_at, prefix_level, prefix_of, prefix_at, augmented_of, augmented_at};
+ghost use Rattle.spec_grammar.specs.Marks.{code_of, sign_at, level_of, operator_of, operator_at, prefix_level, prefix_of, prefix_at, augmented_of, augmented_at};
 ghost use Rattle.py_words.specs.Found.{Finds, FindsWith, first_sign};
 
 use crate::words::{LineWords, Word};

@@ -1,4 +1,4 @@
-ghost use Rattle.std.specs.Prelude.{◌≡◌, drop};
+ghost use Rattle.std.specs.Prelude.{drop};
 ghost use Rattle.spec_grammar.specs.Marks.{name_at, keyword_at};
 ghost use Rattle.py_words.specs.Found.{FindsSeen};
 

@@ -162,3 +162,16 @@ fn strings_have_their_parts(rt: HostRuntime) -> Result<(), Fail> {
     assert_eq!(rt; (parts.len(), next), (0, 5));
     Ok(())
 }
+
+#[test]
+fn words_move_to_a_line(rt: HostRuntime) -> Result<(), Fail> {
+    let mut words = words_of(&rt, "(x,\n1, '''a\nb''')")?;
+    assert_eq!(rt; words.line(3), 2);
+    words.move_to(7);
+    let moved = shown(&rt, &words)?;
+    assert_eq!(rt;
+        moved.as_str(),
+        " 7:OpenParen 7:x 7:Comma 7:1 7:Comma 7:'a\nb' 7:CloseParen"
+    );
+    Ok(())
+}

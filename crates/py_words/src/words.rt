@@ -1,6 +1,7 @@
-ghost use Rattle.std.specs.Prelude.{◌≡◌, ◌+◌, ◌^◌, ◌<◌, [], ◌∷◌, ◌++◌, length, drop, slice_get, IfSome, OnOk, OnErr};
+ghost use Rattle.std.specs.Prelude.{◌≡◌, ◌+◌, ◌^◌, ◌<◌, [], ◌∷◌, ◌++◌, map, length, drop, slice_get, IfSome, OnOk, OnErr};
 ghost use Rattle.std.specs.Option.{option_copied};
 ghost use Rattle.spec_grammar.specs.Words.{line_of};
+ghost use Rattle.spec_syntax.specs.Texts.{moved};
 ghost use Rattle.py_words.specs.Found.{IsFirst};
 ghost use Rattle.py_words.specs.Seen.{seen};
 
@@ -30,6 +31,18 @@ impl Word {
         match self {
             Word::Name { line, .. } | Word::Integer { line, .. } | Word::Sign { line, .. } => *line,
             Word::Text(part) => part.line,
+        }
+    }
+
+    // Puts the word on a line, from 1.
+    fn move_to(&mut self, to: u32)
+        ensures { seen self.new ≡ moved to (seen self.old) }
+    {
+        match self {
+            Word::Name { line, .. } => *line = to,
+            Word::Integer { line, .. } => *line = to,
+            Word::Text(part) => part.line = to,
+            Word::Sign { line, .. } => *line = to,
         }
     }
 }
@@ -92,6 +105,15 @@ impl LineWords {
         match self.first(pos) {
             Some(word) => word.line(),
             None => 0,
+        }
+    }
+
+    /// Puts all words on one line, from 1.
+    pub fn move_to(&mut self, line: u32)
+        ensures { self.new ≡ map (moved line) self.old }
+    {
+        for word in self.words.iter_mut() {
+            word.move_to(line);
         }
     }
 }

@@ -74,10 +74,6 @@ pub record HasDenied (old new : Slots) (clause : List SatLit) : Type 0 where
   pub kept : (l : SatLit) → IsKept new l → IsKept old l
   pub told : (l : SatLit) → IsTold new l → IsTold old l ⊎ Contains (map negated clause) l
 
--- at the start nothing is noted
-pub denied_first : (s : Slots) (clause : List SatLit) → HasDenied s s clause
-denied_first s clause = record { kept = λ l t. t; told = λ l t. inl t }
-
 -- one more literal
 pub denied_next : (old mid new : Slots) (clause : List SatLit) (k m : SatLit) → Contains clause k → m ≡ negated k → HasDenied old mid clause → ((l : SatLit) → IsKept new l → IsKept mid l) → ((l : SatLit) → IsTold new l → IsTold mid l ⊎ (m ≡ l)) → HasDenied old new clause
 denied_next old mid new clause k m t n h kept told =

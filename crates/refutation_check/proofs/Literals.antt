@@ -58,7 +58,3 @@ has_from lits l c = any_from (λ (k : SatLit). same_lit k l) lits l c (lit_itsel
 -- what it does not find is not there
 pub has_not : (lits : List SatLit) (l : SatLit) → has lits l ≡ false → Contains lits l → ⊥
 has_not lits l f c = both_ways (has lits l) f (has_from lits l c)
-
--- a list contains a literal or not
-pub has_cases : (lits : List SatLit) (l : SatLit) → Contains lits l ⊎ (has lits l ≡ false)
-has_cases lits l = elim (cases_Bool (has lits l)) [ inl t ↦ inl (has_told lits l t) | inr f ↦ inr f ]

@@ -1,4 +1,4 @@
-ghost use Rattle.std.specs.Prelude.{◌≡◌, ◌≢◌, ◌++◌, ◌⊎◌, map, Contains, IsTrue, IfSome};
+ghost use Rattle.std.specs.Prelude.{◌≢◌, ◌++◌, ◌⊎◌, map, Contains, IsTrue, IfSome};
 ghost use Rattle.std.specs.List.{All};
 ghost use Rattle.refutation_check.specs.Truth.{negated};
 ghost use Rattle.refutation_check.specs.declared.lit.SatLit.{SatLit};

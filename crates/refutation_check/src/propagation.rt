@@ -1,6 +1,6 @@
 ghost use Rattle.std.specs.Prelude.{◌≡◌, ◌↔◌, ◌++◌, ◌||◌, not, IsTrue, IfOk, find};
 ghost use Rattle.std.specs.List.{list_all};
-ghost use Rattle.refutation_check.specs.Dues.{is_consistent, due_of, due_from, due_in};
+ghost use Rattle.refutation_check.specs.Dues.{is_consistent, due_of, due_in};
 ghost use Rattle.refutation_check.specs.Truth.{negated, same_lit, has};
 ghost use Rattle.refutation_check.specs.Propagation.{IsConflict};
 ghost use Rattle.refutation_check.specs.Refutations.{Follows};

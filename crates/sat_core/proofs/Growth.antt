@@ -26,10 +26,6 @@ pub map_twice : (lits : List SatLit) → map negated (map negated lits) ≡ lits
 map_twice [] = refl
 map_twice (l ∷ lits) = let e = negated_twice l in let f = map_twice lits in λ j. e j ∷ f j
 
--- nothing follows in the empty refutation that does not
-pub none_follow : (clauses : List (List SatLit)) (assumptions : List SatLit) → EachFollows clauses assumptions []
-none_follow clauses assumptions i c e = let w : i < length {A = List SatLit} [] = slice_get_within [] i c e in absurd (omega arith)
-
 -- a clause that follows may be added
 pub follows_push : (clauses : List (List SatLit)) (assumptions : List SatLit) (steps : List (List SatLit)) (c : List SatLit) → EachFollows clauses assumptions steps → Follows (clauses ++ steps) assumptions c → EachFollows clauses assumptions (steps ++ c ∷ [])
 follows_push clauses assumptions steps c each last i d e = by (cases_lt i (length steps))

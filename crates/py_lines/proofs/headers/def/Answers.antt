@@ -39,3 +39,15 @@ returns-clause-read c =
     let x = text_later _ _ (grows_then _ _ _ c.in_ok-parameters.ensures.grown c.in_ok-result.ensures.grown) c.in_ok-name.ensures.grown.valid _ c.in_ok-name.ensures.there in
     let ps = parameters_later _ _ c.in_ok-result.ensures.grown c.in_ok-parameters.ensures.grown.valid _ c.in_ok-parameters.ensures.read.0 in
     ((x.0, ps.0, c.in_ok-result.ensures.read.0), rw (x.1, c.in_ok-name.ensures.text, ps.1, c.in-Some.ensures, c.in-Some-sign.ensures, c.in_ok-parameters.ensures.read.1, c.in_ok-result.ensures.read.1, c.in_ok-end.ensures) refl)
+
+pub returns-in_err-parameters-clause-grown : goal.returns-in_err-parameters-clause-grown
+returns-in_err-parameters-clause-grown c = grows_then _ _ _ c.add_name.ensures.grown c.parameters.ensures.grown
+
+pub returns-in_err-result-clause-grown : goal.returns-in_err-result-clause-grown
+returns-in_err-result-clause-grown c = grows_then _ _ _ c.add_name.ensures.grown (grows_then _ _ _ c.parameters.ensures.grown c.type_behind.ensures.grown)
+
+pub returns-in_err-end-clause-grown : goal.returns-in_err-end-clause-grown
+returns-in_err-end-clause-grown c = grows_then _ _ _ c.add_name.ensures.grown (grows_then _ _ _ c.parameters.ensures.grown c.type_behind.ensures.grown)
+
+pub returns-clause-grown : goal.returns-clause-grown
+returns-clause-grown c = grows_then _ _ _ c.add_name.ensures.grown (grows_then _ _ _ c.parameters.ensures.grown c.type_behind.ensures.grown)

@@ -3,7 +3,7 @@ use Rattle.std.proofs.lemmas.Result.{err_from_is_err_and}
 use Rattle.spec_grammar.specs.HeaderReading.{headed_line}
 use Rattle.spec_grammar.specs.StatementReading.{simple_of}
 use Rattle.py_lines.specs.Headers.{header_tree}
-use Rattle.py_lines.proofs.Later.{header_later}
+use Rattle.py_lines.proofs.Later.{header_kept}
 use Rattle.py_lines.proofs.Turns.{headed_more, headed_stuck, headed_simple, fails_on}
 use Rattle.py_lines.proofs.lines.headed_line.Goals as goal
 
@@ -18,5 +18,5 @@ returns-in_err-statement-clause-read c =
 
 pub returns-clause-read : goal.returns-clause-read
 returns-clause-read c =
-    let a = header_later _ _ c.in_ok-statement.ensures.grown c.requires.module c.args.header c.requires.header in
+    let a = header_kept _ _ c.in_ok-statement.ensures.grown.extends c.requires.module c.args.header c.requires.header in
     rw (headed_more (header_tree c.args.into.now c.args.header) (drop c.args.pos c.args.words.now) _ _ c.in-Some.ensures.word) (headed_simple _ c.args.header _ _ (simple_of (drop c.args.pos c.args.words.now)) a.0 (sym a.1) c.in_ok-statement.ensures.read.0 c.in_ok-statement.ensures.read.1)

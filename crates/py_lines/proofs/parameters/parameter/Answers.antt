@@ -29,3 +29,12 @@ returns-clause-read c =
     let x = text_later _ _ (grows_then _ _ _ c.in_ok-annotation.ensures.grown c.in_ok-default.ensures.grown) c.in_ok-name.ensures.grown.valid _ c.in_ok-name.ensures.there in
     let a = type_later _ _ c.in_ok-default.ensures.grown c.in_ok-annotation.ensures.grown.valid _ c.in_ok-annotation.ensures.read.0 in
     ((x.0, a.0, c.in_ok-default.ensures.read.0), rw (x.1, c.in_ok-name.ensures.text, a.1, c.in-Some.ensures, c.in_ok-annotation.ensures.read.1, c.in_ok-default.ensures.read.1) refl)
+
+pub returns-in_err-annotation-clause-grown : goal.returns-in_err-annotation-clause-grown
+returns-in_err-annotation-clause-grown c = grows_then _ _ _ c.add_name.ensures.grown c.type_behind.ensures.grown
+
+pub returns-in_err-default-clause-grown : goal.returns-in_err-default-clause-grown
+returns-in_err-default-clause-grown c = grows_then _ _ _ c.add_name.ensures.grown (grows_then _ _ _ c.type_behind.ensures.grown c.read_value.ensures.grown)
+
+pub returns-clause-grown : goal.returns-clause-grown
+returns-clause-grown c = grows_then _ _ _ c.add_name.ensures.grown (grows_then _ _ _ c.type_behind.ensures.grown c.read_value.ensures.grown)

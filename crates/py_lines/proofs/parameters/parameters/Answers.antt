@@ -46,3 +46,15 @@ returns-clause-read c =
     let z : c.room_behind-room.result - c.list.counter ≡ 0 = omega arith in
     let e = enough_room _ _ c.room_behind-room.ensures in
     e ∙ sym c.list.invariant.read ∙ parameters_out _ _ _ z
+
+pub returns-in_err-item-clause-grown : goal.returns-in_err-item-clause-grown
+returns-in_err-item-clause-grown c = grows_then _ _ _ c.list.invariant.grown c.parameter.ensures.grown
+
+pub returns-in_err-push-clause-grown : goal.returns-in_err-push-clause-grown
+returns-in_err-push-clause-grown c = grows_then _ _ _ c.list.invariant.grown c.parameter.ensures.grown
+
+pub returns-in-Some-sign-clause-grown : goal.returns-in-Some-sign-clause-grown
+returns-in-Some-sign-clause-grown c = grows_then _ _ _ c.list.invariant.grown c.parameter.ensures.grown
+
+pub returns-in_default-sign-2-clause-grown : goal.returns-in_default-sign-2-clause-grown
+returns-in_default-sign-2-clause-grown c = grows_then _ _ _ c.list.invariant.grown c.parameter.ensures.grown

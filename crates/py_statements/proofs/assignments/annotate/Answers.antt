@@ -23,7 +23,7 @@ pub add-requires : goal.add-requires
 add-requires c =
     let a = expr_later _ _ (grows_then _ _ _ c.in_ok-annotation.ensures.grown c.in_ok-value.ensures.grown) c.requires.module _ c.requires.target in
     let d = type_later _ _ c.in_ok-value.ensures.grown c.in_ok-annotation.ensures.grown.valid _ c.in_ok-annotation.ensures.read.0 in
-    record { parts = (a.0, d.0, c.in_ok-value.ensures.read.0) }
+    record { parts = (a.0, d.0, c.in_ok-value.ensures.read.0); plain = tt }
 
 pub returns-clause-read : goal.returns-clause-read
 returns-clause-read c =
@@ -31,3 +31,15 @@ returns-clause-read c =
     let d = type_later _ _ c.in_ok-value.ensures.grown c.in_ok-annotation.ensures.grown.valid _ c.in_ok-annotation.ensures.read.0 in
     let read = annotate_read c.args.line (shown c.args.into.now c.args.target.index) _ _ _ _ _ c.in_ok-annotation.ensures.read.1 c.in_ok-value.ensures.read.1 (sym c.at_end.ensures ∙ c.if-not-at_end.false) in
     (c.in_ok-add.ensures.there, rw (c.in_ok-add.ensures.tree, read, a.1, d.1) refl)
+
+pub returns-in_err-value-clause-grown : goal.returns-in_err-value-clause-grown
+returns-in_err-value-clause-grown c = grows_then _ _ _ c.annotation.ensures.grown c.read_value.ensures.grown
+
+pub returns-then-not-at_end-clause-grown : goal.returns-then-not-at_end-clause-grown
+returns-then-not-at_end-clause-grown c = grows_then _ _ _ c.annotation.ensures.grown c.read_value.ensures.grown
+
+pub returns-in_err-add-clause-grown : goal.returns-in_err-add-clause-grown
+returns-in_err-add-clause-grown c = grows_then _ _ _ c.annotation.ensures.grown (grows_then _ _ _ c.read_value.ensures.grown c.add.ensures.grown)
+
+pub returns-clause-grown : goal.returns-clause-grown
+returns-clause-grown c = grows_then _ _ _ c.annotation.ensures.grown (grows_then _ _ _ c.read_value.ensures.grown c.add.ensures.grown)

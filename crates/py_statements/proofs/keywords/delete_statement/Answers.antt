@@ -1,6 +1,7 @@
 use Rattle.std.proofs.Common.{sym, ◌∙◌}
 use Rattle.std.proofs.lemmas.Result.{err_from_is_err_and}
 use Rattle.py_statements.proofs.Turns.{fails_on, shows, delete_none, delete_left, delete_other, delete_read}
+use Rattle.py_statements.proofs.Growth.{grows_then}
 use Rattle.py_statements.proofs.keywords.delete_statement.Goals as goal
 
 pub returns-in_err-target-clause-read : goal.returns-in_err-target-clause-read
@@ -16,3 +17,9 @@ returns-then-not-is_index-clause-read c = delete_other _ _ _ _ c.in_ok-target.en
 
 pub returns-clause-read : goal.returns-clause-read
 returns-clause-read c = (c.in_ok-add.ensures.there, shows _ _ _ (delete_read _ _ _ _ c.in_ok-target.ensures.read.1 (sym c.at_end.ensures ∙ c.if-not-at_end.false) (sym c.is_index.ensures ∙ c.if-not-is_index.false)) c.in_ok-add.ensures.tree)
+
+pub returns-in_err-add-clause-grown : goal.returns-in_err-add-clause-grown
+returns-in_err-add-clause-grown c = grows_then _ _ _ c.primary.ensures.grown c.add.ensures.grown
+
+pub returns-clause-grown : goal.returns-clause-grown
+returns-clause-grown c = grows_then _ _ _ c.primary.ensures.grown c.add.ensures.grown

@@ -2,6 +2,7 @@ use Rattle.std.proofs.Common.{sym, ◌∙◌}
 use Rattle.std.proofs.lemmas.Result.{err_from_is_err_and}
 use Rattle.py_statements.proofs.Later.{text_later}
 use Rattle.py_statements.proofs.Turns.{fails_on, shows, raised_alone, raised_no_bracket, raised_none, raised_left, raised_read}
+use Rattle.py_statements.proofs.Growth.{grows_then}
 use Rattle.py_statements.proofs.keywords.raised.Goals as goal
 
 pub returns-then-at_end-clause-read : goal.returns-then-at_end-clause-read
@@ -21,9 +22,15 @@ returns-then-not-at_end-clause-read c = raised_left _ _ _ _ _ _ c.in-Some.ensure
 pub add-requires-2 : goal.add-requires-2
 add-requires-2 c =
     let l = text_later _ _ c.in_ok-arguments.ensures.grown c.requires.module _ c.requires.class in
-    record { parts = (l.0, c.in_ok-arguments.ensures.read.0) }
+    record { parts = (l.0, c.in_ok-arguments.ensures.read.0); plain = tt }
 
 pub returns-clause-read : goal.returns-clause-read
 returns-clause-read c =
     let l = text_later _ _ c.in_ok-arguments.ensures.grown c.requires.module _ c.requires.class in
     (c.in_ok-add-2.ensures.there, rw (sym l.1) (shows _ _ _ (raised_read _ _ _ _ _ _ c.in-Some.ensures c.in_ok-arguments.ensures.read.1 (sym c.at_end-2.ensures ∙ c.if-not-at_end.false)) c.in_ok-add-2.ensures.tree))
+
+pub returns-in_err-add-2-clause-grown : goal.returns-in_err-add-2-clause-grown
+returns-in_err-add-2-clause-grown c = grows_then _ _ _ c.call_arguments.ensures.grown c.add-2.ensures.grown
+
+pub returns-clause-grown : goal.returns-clause-grown
+returns-clause-grown c = grows_then _ _ _ c.call_arguments.ensures.grown c.add-2.ensures.grown

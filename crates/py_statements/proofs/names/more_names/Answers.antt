@@ -23,3 +23,9 @@ pub returns-clause-read : goal.returns-clause-read
 returns-clause-read c =
     let z : c.args.room - c.list.counter ≡ 0 = omega arith in
     sym c.list.invariant.read ∙ names_out _ _ _ _ z
+
+pub returns-in_err-name-clause-grown : goal.returns-in_err-name-clause-grown
+returns-in_err-name-clause-grown c = grows_then _ _ _ c.list.invariant.grown c.add_name.ensures.grown
+
+pub returns-in_err-push-clause-grown : goal.returns-in_err-push-clause-grown
+returns-in_err-push-clause-grown c = grows_then _ _ _ c.list.invariant.grown c.add_name.ensures.grown

@@ -4,7 +4,7 @@ use Rattle.py_tokens.proofs.lines.line_size.Given as goal
 
 abbrev pub invariant-loop-piece : goal.invariant-loop-piece
 invariant-loop-piece l = record {
-  size : l.size + line_size l.«open» l.rest ≡ line_size [] l.pieces;
+  size : l.size + line_size l.brackets l.rest ≡ line_size [] l.pieces;
   place : l.size + length l.rest ≡ length l.pieces;
 }
 

@@ -1,0 +1,60 @@
+-- Which contents are admitted, and as what program. The phases are encoding, tokens, load, lines, nesting, blocks and the form that is run, and the first that refuses decides.
+use Rattle.std.specs.Prelude.{ℕ, suc, ◌==◌, List, [], take, Result, Ok, Err, codes, if◌then◌else◌}
+use Rattle.std.specs.List.{count_by}
+use Rattle.std.specs.Str.{is_utf8, chars}
+use Rattle.std.specs.Str.Lossy.{utf8_valid_len}
+use Rattle.spec_tokens.specs.declared.Fault.{Fault}
+use Rattle.spec_tokens.specs.declared.Fault.TheVariants as fault
+use Rattle.spec_tokens.specs.declared.Refusal as tokens
+use Rattle.spec_tokens.specs.Letters.{letters_of}
+use Rattle.spec_tokens.specs.Cutting.{pieces_of}
+use Rattle.spec_tokens.specs.Tokens.{Scan, tokens_of}
+use Rattle.spec_trees.specs.Module.{Block}
+use Rattle.spec_first_trees.specs.Program.{Function, Program}
+use Rattle.spec_syntax.specs.Lines.{word_lines}
+use Rattle.spec_syntax.specs.Phases.{Misfit, too_deep, no_line, misplaced, parsed}
+use Rattle.spec_forms.specs.Forms.{functions_of}
+
+-- why a content is not admitted: the name of the refusal, and the line at which it shows
+pub record Refusal : Type 0 where
+  pub line : ℕ
+  pub kind : List ℕ
+
+abbrev pub refused : ℕ → List ℕ → Result Program Refusal
+refused n kind = Err (record { line = n; kind = kind })
+
+-- the line of the first byte that begins no valid character
+abbrev pub invalid_line : List ℕ → ℕ
+invalid_line bs = suc (count_by (λ b. b == 10) (take (utf8_valid_len bs) bs))
+
+abbrev pub fault_name : Fault → List ℕ
+fault_name fault.BadCharacter = codes "BadCharacter"
+fault_name fault.MixedIndent = codes "MixedIndent"
+fault_name fault.BadDedent = codes "BadDedent"
+fault_name fault.OpenString = codes "OpenString"
+fault_name fault.OpenBracket = codes "OpenBracket"
+fault_name fault.BigInteger = codes "BigInteger"
+fault_name fault.NumberForm = codes "NumberForm"
+fault_name fault.EscapeForm = codes "EscapeForm"
+
+abbrev pub formed : Result (List Function) ℕ → Result Program Refusal
+formed (Ok fs) = Ok (record { functions = fs })
+formed (Err n) = refused n (codes "NotBuilt")
+
+abbrev pub as_block : Result Block Misfit → Result Program Refusal
+as_block (Ok b) = formed (functions_of [] b)
+as_block (Err (no_line n)) = refused n (codes "Line")
+as_block (Err (too_deep n)) = refused n (codes "TooDeep")
+as_block (Err (misplaced n)) = refused n (codes "Block")
+
+abbrev pub as_tokens : Result Scan tokens.Refusal → Result Program Refusal
+as_tokens (Ok s) = as_block (parsed (word_lines s))
+as_tokens (Err r) = refused r.line (fault_name r.fault)
+
+-- the program of a text
+unfoldable pub admit_text : List ℕ → Result Program Refusal
+admit_text text = as_tokens (tokens_of text (pieces_of (letters_of text)))
+
+-- the program of a content, or the first refusal
+unfoldable pub admit : List ℕ → Result Program Refusal
+admit content = if is_utf8 content then admit_text (chars content) else refused (invalid_line content) (codes "NotUtf8")

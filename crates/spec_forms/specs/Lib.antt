@@ -1,0 +1,4 @@
+pub mod Expressions
+pub mod Names
+pub mod Forms
+pub mod Admission
