@@ -1,0 +1,4 @@
+pub mod Growth
+pub mod Later
+pub mod Lines
+pub mod Turns

@@ -1,0 +1,14 @@
+use Rattle.std.proofs.Common.{drop, sym}
+use Rattle.spec_grammar.specs.BlockReading.{else_of}
+use Rattle.py_blocks.proofs.Lines.{head_missed, else_found, else_other}
+use Rattle.py_blocks.proofs.Turns.{admitted_missed}
+use Rattle.py_blocks.proofs.heads.else_at.Goals as goal
+
+pub returns-in_err-header-clause-found : goal.returns-in_err-header-clause-found
+returns-in_err-header-clause-found c m ps h = rw c.from_residual.ensures (admitted_missed else_of c.args.depth (drop c.args.pos ps) (head_missed m _ ps _ _ h (sym c.in_err-header.ensures.head)))
+
+pub returns-in-Else-clause-found : goal.returns-in-Else-clause-found
+returns-in-Else-clause-found c m ps h = else_found m _ ps _ _ _ _ h (sym c.in_ok-header.ensures.head) c.in-Else.line c.in-Else.is
+
+pub returns-in_default : goal.returns-in_default
+returns-in_default c = record { found = λ m ps h. else_other m _ ps _ _ _ _ h (sym c.in_ok-header.ensures.head) c.in_default.not-Else; within = tt }

@@ -1,0 +1,3 @@
+pub mod Heads
+pub mod Growth
+pub mod Given

@@ -1,0 +1,5 @@
+mod clauses;
+mod compounds;
+mod statements;
+
+pub(crate) use statements::block;

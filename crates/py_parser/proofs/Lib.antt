@@ -1,0 +1,4 @@
+pub mod Fronts
+pub mod Steps
+pub mod LineTurns
+pub mod Modules
