@@ -28,7 +28,8 @@ use Rattle.crosshair.specs.declared.verdicts.Fault.TheVariants.{RaisedInBody}
 use Rattle.crosshair.specs.declared.calls.Call as declared
 use Rattle.crosshair.specs.declared.evaluator.Local.{Local}
 use Rattle.crosshair.specs.Evaluates.{RunsTo, local_in, locals_of}
-use Rattle.crosshair.specs.Meaning.{function_in, call_in, second_in, parameters_in, second_parameters}
+use Rattle.first_tree.specs.Functions.{function_in, parameters_in, second_parameters}
+use Rattle.crosshair.specs.Meaning.{call_in, second_in}
 use Rattle.crosshair.specs.Judges.{EndsBody, IsJudged, IsLineJudged, broken_by, limited_by}
 use Rattle.crosshair.proofs.Evaluation.{spends}
 

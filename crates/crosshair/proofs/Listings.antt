@@ -5,7 +5,8 @@ use Rattle.std.specs.List.{flat_map}
 use Rattle.spec_first_trees.specs.Bounds.{Bounds}
 use Rattle.spec_calls.specs.Calls.{Argument, Call, Number, integers, choices}
 use Rattle.first_tree.specs.declared.nodes.Parameters.{Parameters}
-use Rattle.crosshair.specs.Meaning.{calls_in, parameters_in}
+use Rattle.first_tree.specs.Functions.{parameters_in}
+use Rattle.crosshair.specs.Meaning.{calls_in}
 use Rattle.crosshair.specs.Listing.{single, pair}
 
 -- the calls with one argument

@@ -19,7 +19,8 @@ use Rattle.spec_verdicts.specs.Report.{function_text, has_error}
 use Rattle.first_tree.specs.declared.nodes.ExprNode.{ExprNode}
 use Rattle.first_tree.specs.declared.nodes.FnNode.{FnNode}
 use Rattle.crosshair.specs.declared.verdicts.Condition.TheVariants.{Raises, Post}
-use Rattle.crosshair.specs.Meaning.{function_in, condition_in, parameters_in}
+use Rattle.first_tree.specs.Functions.{function_in, parameters_in}
+use Rattle.crosshair.specs.Meaning.{condition_in}
 use Rattle.crosshair.specs.Texts.{condition_text, condition_fails}
 
 -- three pieces are appended one after the other

@@ -11,7 +11,8 @@ use Rattle.spec_verdicts.specs.Verdicts.{Error, first_of, with_call, concluded, 
 use Rattle.first_tree.specs.declared.nodes.ExprNode.{ExprNode}
 use Rattle.first_tree.specs.declared.nodes.FnNode.{FnNode}
 use Rattle.crosshair.specs.declared.calls.Call as declared
-use Rattle.crosshair.specs.Meaning.{call_in, calls_in, function_in, parameters_in}
+use Rattle.first_tree.specs.Functions.{function_in, parameters_in}
+use Rattle.crosshair.specs.Meaning.{call_in, calls_in}
 use Rattle.crosshair.specs.Judges.{earlier, kept}
 
 -- what is known of all calls zs, when ws are still to be tried

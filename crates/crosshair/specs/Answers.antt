@@ -1,20 +1,32 @@
 -- What reading a content answers.
-use Rattle.std.specs.Prelude.{◌≡◌, ⊤, ℕ, [], ◌∷◌, map, All, Result, Ok, Err}
+use Rattle.std.specs.Prelude.{◌≡◌, ⊤, ℕ, List, map, codes, Result, Ok, Err}
 use Rattle.spec_first_trees.specs.Program.{Program}
-use Rattle.spec_contracts.specs.Forms.{Form}
-use Rattle.spec_contracts.specs.Admission.{formed}
+use Rattle.spec_forms.specs.Admission.{Refusal}
 use Rattle.first_tree.specs.Arena.{ModuleState}
-use Rattle.first_parser.specs.Answers.{form_in, IsPlaced}
+use Rattle.first_tree.specs.Functions.{function_in}
 use Rattle.crosshair.specs.declared.admission.StageError.{StageError}
-use Rattle.crosshair.specs.declared.admission.StageError.TheVariants.{NotBuilt, NoMemory}
-use Rattle.crosshair.specs.Meaning.{function_in}
+use Rattle.crosshair.specs.declared.admission.StageError.TheVariants.{Refused, NoMemory}
+use Rattle.crosshair.specs.declared.refusals.RefusalKind.{RefusalKind}
+use Rattle.crosshair.specs.declared.refusals.RefusalKind.TheVariants as kind
+
+-- the name of a refusal, as it is written
+abbrev pub kind_name : RefusalKind → List ℕ
+kind_name kind.NotUtf8 = codes "NotUtf8"
+kind_name kind.BadCharacter = codes "BadCharacter"
+kind_name kind.MixedIndent = codes "MixedIndent"
+kind_name kind.BadDedent = codes "BadDedent"
+kind_name kind.OpenString = codes "OpenString"
+kind_name kind.OpenBracket = codes "OpenBracket"
+kind_name kind.BigInteger = codes "BigInteger"
+kind_name kind.NumberForm = codes "NumberForm"
+kind_name kind.EscapeForm = codes "EscapeForm"
+kind_name kind.Line = codes "Line"
+kind_name kind.TooDeep = codes "TooDeep"
+kind_name kind.Block = codes "Block"
+kind_name kind.NotBuilt = codes "NotBuilt"
 
 -- a module stands for the program of its functions, or the content is refused at a line
-abbrev pub IsAdmission : Result Program ℕ → Result ModuleState StageError → Type 0
+abbrev pub IsAdmission : Result Program Refusal → Result ModuleState StageError → Type 0
 IsAdmission want (Ok m) = want ≡ Ok (record { functions = map (function_in m.nodes) m.functions })
-IsAdmission want (Err (NotBuilt line)) = want ≡ Err line
+IsAdmission want (Err (Refused n k)) = want ≡ Err (record { line = n; kind = kind_name k })
 IsAdmission want (Err NoMemory) = ⊤
-
--- the same for a module whose one function has this form, and stands where it is read
-abbrev pub IsNamed : ModuleState → Result ModuleState StageError → Type 0
-IsNamed m answer = (form : Form) → map (form_in m.nodes) m.functions ≡ form ∷ [] → All IsPlaced m.functions → IsAdmission (formed (Ok form)) answer

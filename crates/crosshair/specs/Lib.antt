@@ -4,5 +4,6 @@ pub mod Evaluates
 pub mod Judges
 pub mod Listing
 pub mod Meaning
+pub mod Refusals
 pub mod SettingsOf
 pub mod Texts

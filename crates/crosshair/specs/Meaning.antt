@@ -1,15 +1,11 @@
 -- What the types of this crate mean to the definitions.
-use Rattle.std.specs.Prelude.{ℕ, ℤ, Bool, List, [], ◌∷◌, map, Option, Some, None}
-use Rattle.std.specs.Borrow.{Bor}
-use Rattle.spec_first_trees.specs.Program.{Function, Parameter, Integer, Return}
+use Rattle.std.specs.Prelude.{ℤ, Bool, List, [], ◌∷◌, map, Option, Some, None}
 use Rattle.spec_first_trees.specs.Program as program
 use Rattle.spec_calls.specs.Calls.{Call, Number}
-use Rattle.spec_contracts.specs.Forms.{Head}
 use Rattle.spec_verdicts.specs.Breaking as breaking
 use Rattle.spec_verdicts.specs.Verdicts as verdicts
 use Rattle.first_tree.specs.declared.nodes.ExprNode.{ExprNode}
 use Rattle.first_tree.specs.declared.nodes.FnNode.{FnNode}
-use Rattle.first_tree.specs.declared.nodes.Parameters.{Parameters}
 use Rattle.first_tree.specs.Arena.{shown}
 use Rattle.crosshair.specs.declared.calls.Call as declared
 use Rattle.crosshair.specs.declared.verdicts.Fault.{Fault}
@@ -19,36 +15,9 @@ use Rattle.crosshair.specs.declared.verdicts.Verdict.TheVariants.{Error, NotConf
 use Rattle.crosshair.specs.declared.verdicts.Condition.{Condition}
 use Rattle.crosshair.specs.declared.verdicts.Condition.TheVariants.{Raises, Post}
 
-abbrev pub texts_of : List (Bor (List ℕ)) → List (List ℕ)
-texts_of names = map (λ n. n.now) names
-
-abbrev pub head_in : FnNode → Head
-head_in f = record { name = f.name; parameter = f.parameters.first }
-
-abbrev pub int_parameter : List ℕ → Parameter
-int_parameter x = record { name = x; type = Integer }
-
--- the second parameter, where there is one
-abbrev pub second_parameters : Option (List ℕ) → List Parameter
-second_parameters None = []
-second_parameters (Some x) = int_parameter x ∷ []
-
-abbrev pub parameters_in : Parameters → List Parameter
-parameters_in p = int_parameter p.first ∷ second_parameters p.second
-
 abbrev pub condition_in : List ExprNode → FnNode → Condition → program.Condition
 condition_in nodes f Raises = program.Raises f.line
 condition_in nodes f Post = program.Post f.post_line (shown nodes f.post.index)
-
--- The checked function of a node. No report shows the number of a statement yet, so the one statement of each function has number 0.
-abbrev pub function_in : List ExprNode → FnNode → Function
-function_in nodes f = record {
-  name = f.name;
-  parameters = parameters_in f.parameters;
-  preconditions = [];
-  conditions = condition_in nodes f Raises ∷ condition_in nodes f Post ∷ [];
-  body = record { number = 0; statement = Return (shown nodes f.value.index) } ∷ [];
-}
 
 -- f of both integers, where both are there
 abbrev pub both : (ℤ → ℤ → Bool) → Option ℤ → Option ℤ → Option Bool

@@ -6,7 +6,7 @@ use Rattle.spec_verdicts.specs.Verdicts.{verdict}
 use Rattle.spec_verdicts.specs.Lines.{verdict_line}
 use Rattle.spec_verdicts.specs.Report.{line_of, is_error}
 use Rattle.first_tree.specs.Arena.{ModuleState}
-use Rattle.crosshair.specs.Meaning.{function_in}
+use Rattle.first_tree.specs.Functions.{function_in}
 
 -- what is written for a condition
 abbrev pub condition_text : List ℕ → Bounds → Function → Condition → List ℕ

@@ -1,58 +1,115 @@
 // Which contents are admitted.
-ghost use Rattle.std.specs.Prelude.{◌≡◌, ◌<◌, ◌^◌, length};
-ghost use Rattle.spec_contracts.specs.Forms.{form_of};
-ghost use Rattle.spec_contracts.specs.Admission.{admit, formed};
-ghost use Rattle.crosshair.specs.Answers.{IsAdmission, IsNamed};
+ghost use Rattle.std.specs.Prelude.{◌≡◌, ◌<◌, ◌≤◌, ◌^◌, ◌==◌, suc, length, take, chars};
+ghost use Rattle.std.specs.List.{count_by};
+ghost use Rattle.spec_forms.specs.Admission.{admit, admit_text};
+ghost use Rattle.crosshair.specs.Answers.{IsAdmission};
 
-use crate::names::broken_line;
-use first_parser::{SyntaxError, module};
-use first_tokens::{TokenError, Tokens, scan};
+use crate::refusals::RefusalKind;
+use first_forms::{FormError, functions};
 use first_tree::Module;
+use py_parser::{SyntaxError, module};
+use py_tokens::{TokenError, scan};
 use std::alloc::Global;
+use std::str;
 use thiserror::Error;
 
 /// Why a content is not admitted.
 #[derive(Clone, Copy, Debug, PartialEq, Eq, Error)]
 pub enum StageError {
-    /// The line of this number, counted from 1, is the first whose form is not built yet.
-    #[error("the form of line {0} is not built")]
-    NotBuilt(u32),
+    /// The content is refused at the line of this number, counted from 1.
+    #[error("line {0} is refused")]
+    Refused(u32, RefusalKind),
     /// There is no memory for the module.
     #[error("out of memory")]
     NoMemory,
 }
 
-/// Admits a module whose names are as they may be.
-fn admit_names(trees: Module) -> Result<Module, StageError>
-    requires { length trees.functions ≡ 1 }
-    ensures { IsNamed trees result }
-{
-    match broken_line(&trees, trees.function(0)) {
-        Some(line) => Err(StageError::NotBuilt(line)),
-        None => Ok(trees),
+impl From<TokenError> for StageError {
+    ghost use Rattle.std.specs.Prelude.{◌≡◌};
+    ghost use Rattle.crosshair.specs.Refusals.{token_refusal};
+
+    ghost from_gives = { λ t e. e ≡ token_refusal t };
+
+    fn from(error: TokenError) -> Self {
+        match error {
+            TokenError::BadCharacter(line) => StageError::Refused(line, RefusalKind::BadCharacter),
+            TokenError::MixedIndent(line) => StageError::Refused(line, RefusalKind::MixedIndent),
+            TokenError::BadDedent(line) => StageError::Refused(line, RefusalKind::BadDedent),
+            TokenError::OpenString(line) => StageError::Refused(line, RefusalKind::OpenString),
+            TokenError::OpenBracket(line) => StageError::Refused(line, RefusalKind::OpenBracket),
+            TokenError::BigInteger(line) => StageError::Refused(line, RefusalKind::BigInteger),
+            TokenError::NumberForm(line) => StageError::Refused(line, RefusalKind::NumberForm),
+            TokenError::EscapeForm(line) => StageError::Refused(line, RefusalKind::EscapeForm),
+            TokenError::NoMemory => StageError::NoMemory,
+        }
     }
 }
 
-/// Reads the lines and the names of a content that is cut into words.
-fn admit_tokens(alloc: Global, tokens: &Tokens) -> Result<Module, StageError>
-    ensures { IsAdmission (formed (form_of tokens.now)) result }
-{
-    match module(alloc, tokens) {
-        Ok(trees) => admit_names(trees),
-        Err(SyntaxError::NotBuilt(line)) => Err(StageError::NotBuilt(line)),
-        Err(SyntaxError::NoMemory) => Err(StageError::NoMemory),
+impl From<SyntaxError> for StageError {
+    ghost use Rattle.std.specs.Prelude.{◌≡◌};
+    ghost use Rattle.crosshair.specs.Refusals.{syntax_refusal};
+
+    ghost from_gives = { λ s e. e ≡ syntax_refusal s };
+
+    fn from(error: SyntaxError) -> Self {
+        match error {
+            SyntaxError::Line(line) => StageError::Refused(line, RefusalKind::Line),
+            SyntaxError::TooDeep(line) => StageError::Refused(line, RefusalKind::TooDeep),
+            SyntaxError::Block(line) => StageError::Refused(line, RefusalKind::Block),
+            SyntaxError::NoMemory => StageError::NoMemory,
+        }
     }
 }
 
-/// Reads a content: its words, its lines and its names, in this order. The first that refuses decides.
-#[tactic(auto, unfolding(spec_contracts::specs::Admission::admit))]
+impl From<FormError> for StageError {
+    ghost use Rattle.std.specs.Prelude.{◌≡◌};
+    ghost use Rattle.crosshair.specs.Refusals.{form_refusal};
+
+    ghost from_gives = { λ f e. e ≡ form_refusal f };
+
+    fn from(error: FormError) -> Self {
+        match error {
+            FormError::NotBuilt(line) => StageError::Refused(line, RefusalKind::NotBuilt),
+            FormError::NoMemory => StageError::NoMemory,
+        }
+    }
+}
+
+/// The number, from 1, of the line on which the byte of this place stands.
+fn line_at(content: &[u8], place: usize) -> u32
+    requires within { place ≤ length content.now }
+    requires small { length content.now < 2 ^ 31 }
+    ensures { result ≡ suc (count_by (λ b. b == 10) (take place content.now)) }
+{
+    let mut line = 1;
+    for b in &content[..place] {
+        if *b == b'\n' {
+            line += 1;
+        }
+    }
+    line
+}
+
+/// Reads a text: its tokens, its blocks and its functions, in this order. The first that refuses decides.
+fn admit_text(alloc: Global, text: &str) -> Result<Module, StageError>
+    requires { length text.now < 2 ^ 31 }
+    ensures { IsAdmission (admit_text (chars text.now)) result }
+{
+    let tokens = scan(alloc, text)?;
+    let module = module(alloc, &tokens)?;
+    Ok(functions(alloc, &module)?)
+}
+
+/// Reads a content, whose encoding is UTF-8, or else refuses it at the line of the first byte that begins no character.
 pub fn admit(alloc: Global, content: &[u8]) -> Result<Module, StageError>
     requires { length content.now < 2 ^ 31 }
     ensures { IsAdmission (admit content.now) result }
 {
-    match scan(alloc, content) {
-        Ok(tokens) => admit_tokens(alloc, &tokens),
-        Err(TokenError::NotBuilt(line)) => Err(StageError::NotBuilt(line)),
-        Err(TokenError::NoMemory) => Err(StageError::NoMemory),
+    match str::from_utf8(content) {
+        Ok(text) => admit_text(alloc, text),
+        Err(error) => {
+            let line = line_at(content, error.valid_up_to());
+            Err(StageError::Refused(line, RefusalKind::NotUtf8))
+        }
     }
 }

@@ -3,7 +3,8 @@ ghost use Rattle.std.specs.Prelude.{◌≡◌, ◌++◌, ◌<◌, ◌≤◌, ◌
 ghost use Rattle.std.specs.List.{flat_map};
 ghost use Rattle.spec_calls.specs.Calls.{integers, choices};
 ghost use Rattle.first_tree.specs.BoundsOf.{bounds_of};
-ghost use Rattle.crosshair.specs.Meaning.{calls_in, parameters_in};
+ghost use Rattle.first_tree.specs.Functions.{parameters_in};
+ghost use Rattle.crosshair.specs.Meaning.{calls_in};
 ghost use Rattle.crosshair.specs.Listing.{single, pair};
 
 use first_tree::{Bounds, Parameters};

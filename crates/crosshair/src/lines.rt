@@ -3,7 +3,8 @@ ghost use Rattle.spec_calls.specs.Calls.{Number};
 ghost use Rattle.spec_calls.specs.Printing.{named, arguments_text, printed, shown};
 ghost use Rattle.spec_verdicts.specs.Lines.{class_name, error_line, fault_text, refusal_line, which_returns};
 ghost use Rattle.first_tree.specs.declared.nodes.ExprNode.{ExprNode};
-ghost use Rattle.crosshair.specs.Meaning.{call_in, fault_in, function_in, parameters_in};
+ghost use Rattle.first_tree.specs.Functions.{function_in, parameters_in};
+ghost use Rattle.crosshair.specs.Meaning.{call_in, fault_in};
 
 use crate::calls::Call;
 use crate::verdicts::Fault;

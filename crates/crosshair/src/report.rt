@@ -11,7 +11,8 @@ ghost use Rattle.spec_verdicts.specs.Lines.{fault_line, refusal_line, verdict_li
 ghost use Rattle.spec_verdicts.specs.Report.{entry_of, function_text, has_error, is_error, line_of, program_report, refused, report_of, reported};
 ghost use Rattle.spec_verdicts.specs.declared.TheConstants.{READ_LIMIT};
 ghost use Rattle.crosshair.specs.Ends.{Ends, HasStopCause, TellsRead};
-ghost use Rattle.crosshair.specs.Meaning.{condition_in, function_in, verdict_in};
+ghost use Rattle.first_tree.specs.Functions.{function_in};
+ghost use Rattle.crosshair.specs.Meaning.{condition_in, verdict_in};
 ghost use Rattle.crosshair.specs.Texts.{condition_fails, condition_text, program_in};
 
 use crate::admission::{StageError, admit};
@@ -182,7 +183,7 @@ fn report<O: Sink, E: Sink>(
 {
     match admit(alloc, content) {
         Ok(trees) => report_program(alloc, name, &trees, bounds, out, err),
-        Err(StageError::NotBuilt(line)) => refuse(alloc, name, line, "NotBuilt", out, err),
+        Err(StageError::Refused(line, kind)) => refuse(alloc, name, line, kind.name(), out, err),
         Err(StageError::NoMemory) => Err(Stop::NoMemory),
     }
 }

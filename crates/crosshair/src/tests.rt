@@ -128,6 +128,109 @@ fn answers_the_status(rt: HostRuntime) -> Result<(), Fail> {
 }
 
 #[test]
+fn refuses_contents(rt: HostRuntime) -> Result<(), Fail> {
+    let alloc = rt.alloc();
+    let table: [(&[u8], &str); 15] = [
+        (b"# \xff\n", "m.py:1: refused: NotUtf8\n"),
+        (b"# \n\n\xc3(\n", "m.py:3: refused: NotUtf8\n"),
+        // the encoding is tried first
+        (b"?\n\xed\xa0\x80", "m.py:2: refused: NotUtf8\n"),
+        (b"\nx = $\n", "m.py:2: refused: BadCharacter\n"),
+        (
+            b"if x:\n\tpass\n        pass\n",
+            "m.py:3: refused: MixedIndent\n",
+        ),
+        (b"if x:\n    pass\n  pass\n", "m.py:3: refused: BadDedent\n"),
+        (b"'a\n", "m.py:1: refused: OpenString\n"),
+        (b"\n(\n", "m.py:2: refused: OpenBracket\n"),
+        (
+            b"170141183460469231731687303715884105728\n",
+            "m.py:1: refused: BigInteger\n",
+        ),
+        (b"01\n", "m.py:1: refused: NumberForm\n"),
+        (b"'\\ud800'\n", "m.py:1: refused: EscapeForm\n"),
+        (b"f(a=1, 2)\n", "m.py:1: refused: Line\n"),
+        (b"pass\nreturn 1\n", "m.py:2: refused: Block\n"),
+        (b"pass\n", "m.py:1: refused: NotBuilt\n"),
+        (
+            b"def f(x: int) -> int:\n    'post: y'\n    return 1\n",
+            "m.py:2: refused: NotBuilt\n",
+        ),
+    ];
+    for (content, refusal) in table {
+        let mut files = MemFiles::new(alloc);
+        files.put("m.py", content)?;
+        expect_run(
+            &rt,
+            alloc,
+            &["check", "m.py"],
+            &mut files,
+            (100, 100),
+            (2, "", refusal),
+        )?;
+    }
+    Ok(())
+}
+
+#[test]
+fn refuses_what_is_too_deep(rt: HostRuntime) -> Result<(), Fail> {
+    let alloc = rt.alloc();
+    let mut content = Bytes::new(alloc);
+    content.push(b'\n')?;
+    for _ in 0..2_000u32 {
+        content.push(b'(')?;
+    }
+    content.push(b'x')?;
+    for _ in 0..2_000u32 {
+        content.push(b')')?;
+    }
+    let mut files = MemFiles::new(alloc);
+    files.put("m.py", content.as_slice())?;
+    expect_run(
+        &rt,
+        alloc,
+        &["check", "m.py"],
+        &mut files,
+        (100, 100),
+        (2, "", "m.py:2: refused: TooDeep\n"),
+    )
+}
+
+#[test]
+fn checks_each_function(rt: HostRuntime) -> Result<(), Fail> {
+    let alloc = rt.alloc();
+    let mut files = MemFiles::new(alloc);
+    files.put(
+        "m.py",
+        b"# three functions\n\ndef sum(x: int) -> int:\n    'post: 1'\n    return x\n",
+    )?;
+    files.put(
+        "n.py",
+        b"# three functions\n\ndef add(x: int, y: int) -> int:\n    'post: __return__ - y == x'\n    return x + y\n\ndef sub(x: int, y: int) -> int:\n    # wrong\n    'post: __return__ < 1'\n    return x - y  # a difference\n\ndef sq(z: int) -> bool:\n    'post: __return__'\n    return z * z > 0\n",
+    )?;
+    expect_run(
+        &rt,
+        alloc,
+        &["check", "m.py"],
+        &mut files,
+        (200, 200),
+        (2, "", "m.py:3: refused: NotBuilt\n"),
+    )?;
+    expect_run(
+        &rt,
+        alloc,
+        &["check", "n.py"],
+        &mut files,
+        (200, 200),
+        (
+            1,
+            "n.py:9: error: false when calling sub(x = 0, y = -1) (which returns 1)\nn.py:13: error: false when calling sq(z = 0) (which returns False)\n",
+            "",
+        ),
+    )
+}
+
+#[test]
 fn refuses_a_long_file(rt: HostRuntime) -> Result<(), Fail> {
     let alloc = rt.alloc();
     let mut content = Bytes::new(alloc);

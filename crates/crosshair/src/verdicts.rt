@@ -7,17 +7,20 @@ ghost use Rattle.spec_verdicts.specs.Verdicts.{verdict, verdict_over, undecided}
 ghost use Rattle.first_tree.specs.Arena.{shown};
 ghost use Rattle.first_tree.specs.BoundsOf.{bounds_of};
 ghost use Rattle.crosshair.specs.Evaluates.{local_in};
-ghost use Rattle.crosshair.specs.Meaning.{function_in, condition_in, call_in, calls_in, second_in, second_parameters, verdict_in};
+ghost use Rattle.first_tree.specs.Functions.{function_in, second_parameters};
+ghost use Rattle.crosshair.specs.Meaning.{condition_in, call_in, calls_in, second_in, verdict_in};
 ghost use Rattle.crosshair.specs.Judges.{EndsBody, IsJudged, IsLineJudged, kept};
 
 use crate::calls::{Call, listing};
 use crate::evaluator::{Local, evaluate};
-use crate::names::RETURNED;
 use crate::operations::truth;
 use first_tree::{Bounds, ExcClass, FnNode, LimitKind, Module, Parameters};
 use spec_running::{Outcome, Value};
 use std::alloc::Global;
 use xh_outside::{Bytes, NoMemory};
+
+/// The name of the returned value in a post line (PEP 316).
+const RETURNED: &[u8] = b"__return__";
 
 /// A condition of a function.
 #[derive(Clone, Copy, Debug, PartialEq, Eq)]

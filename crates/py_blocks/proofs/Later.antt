@@ -1,7 +1,6 @@
 -- What was built keeps its trees while statements are added, and lists with one more.
 use Rattle.std.specs.Global.{Vec}
-use Rattle.std.proofs.Common.{◌≡◌, ℕ, ◌<◌, List, [], ◌∷◌, ◌++◌, length, Option, Some, None, refl, ap, arith, ◌∙◌}
-use Rattle.spec_trees.specs.Stmt.{Simple}
+use Rattle.std.proofs.Common.{◌≡◌, ℕ, ◌<◌, List, [], ◌∷◌, ◌++◌, length, Option, refl, ap, arith, ◌∙◌}
 use Rattle.spec_trees.specs.Module.{Statement, Block, Branches, Handlers}
 use Rattle.spec_grammar.specs.Blocks.{PlacedLine}
 use Rattle.spec_grammar.specs.BlockReading.{with_statement, with_branch, with_handler}
@@ -28,7 +27,6 @@ use Rattle.py_placed.specs.declared.placed.PlacedLine as placed
 use Rattle.py_placed.specs.Placed.{ArePlaced}
 use Rattle.py_placed.proofs.Later as read
 use Rattle.py_blocks.specs.Growth.{Builds}
-use Rattle.py_blocks.specs.Heads.{IsOwn}
 use Rattle.py_blocks.proofs.Growth.{builds_extends}
 
 module _ (xs : List (ℕ × ℕ)) (m n : State) (b : Builds xs m n) (d : IsModule m) where
@@ -38,9 +36,6 @@ module _ (xs : List (ℕ × ℕ)) (m n : State) (b : Builds xs m n) (d : IsModul
   pub header_later : (x : HeaderNode) → IsHeaderThere m x → IsHeaderThere n x × (header_tree n x ≡ header_tree m x)
   header_later x h = header_kept m n (builds_extends xs m n b) d x h
 
-  pub stmt_later : (s : StmtId) → s.index < length m.stmts → (s.index < length n.stmts) × (shown_stmt n s.index ≡ shown_stmt m s.index)
-  stmt_later s lt = read.stmt_later m n (builds_extends xs m n b) d s lt
-
   pub expr_later : (e : ExprId) → e.index < length m.exprs → (e.index < length n.exprs) × (shown n e.index ≡ shown m e.index)
   expr_later e lt = let more = exprs_grow m n (builds_extends xs m n b) in (omega arith, shown_kept m n e.index (builds_extends xs m n b) d lt)
 
@@ -49,12 +44,6 @@ module _ (xs : List (ℕ × ℕ)) (m n : State) (b : Builds xs m n) (d : IsModul
 
   pub names_later : (l : NamesId) → l.index < length m.lists → (l.index < length n.lists) × (texts_of n l ≡ texts_of m l)
   names_later l lt = let more = lists_grow m n (builds_extends xs m n b) in (omega arith, texts_kept m n (builds_extends xs m n b) d l lt)
-
-  pub own_later : (s : Option StmtId) (o : Option Simple) → IsOwn m s o → IsOwn n s o
-  own_later None None h = tt
-  own_later (Some s) (Some x) h = let l = stmt_later s h.0 in (l.0, l.1 ∙ h.1)
-  own_later None (Some x) h = absurd h
-  own_later (Some s) None h = absurd h
 
   pub block_later : (ys : List StmtId) → AreStmtsBelow (length m.stmts) ys → AreStmtsBelow (length n.stmts) ys × (block_tree (shown_stmt n) ys ≡ block_tree (shown_stmt m) ys)
   block_later ys h = (stmts_more (length m.stmts) (length n.stmts) (stmts_grow m n (builds_extends xs m n b)) ys h, block_kept m n (builds_extends xs m n b) d ys h)

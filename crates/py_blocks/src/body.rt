@@ -1,4 +1,4 @@
-ghost use Rattle.std.specs.Prelude.{◌≡◌, List};
+ghost use Rattle.std.specs.Prelude.{List};
 ghost use Rattle.spec_grammar.specs.Blocks as spelled;
 ghost use Rattle.spec_grammar.specs.BlockReading.{module_of};
 ghost use Rattle.py_placed.specs.Placed.{ArePlaced};

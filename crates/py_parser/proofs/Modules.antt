@@ -1,6 +1,5 @@
 -- A module that is read, from its lines to its statements.
-use Rattle.std.specs.Global.{Vec}
-use Rattle.std.proofs.Common.{add-one, append_assoc, drop-cons, ◌≡◌, ℕ, ◌+◌, ◌<◌, List, [], ◌∷◌, ◌++◌, length, drop, get_or, Some, None, Result, Ok, Err, refl, sym, ap, subst, ◌∙◌}
+use Rattle.std.proofs.Common.{add-one, append_assoc, drop-cons, ◌≡◌, ℕ, ◌+◌, ◌<◌, List, [], ◌∷◌, ◌++◌, length, drop, get_or, Some, None, Result, Err, refl, sym, ap, subst, ◌∙◌}
 use Rattle.std.proofs.lemmas.List.{append-nil}
 use Rattle.std.proofs.Math.Seq.{drop-length}
 use Rattle.spec_trees.specs.Module as tree
@@ -9,7 +8,7 @@ use Rattle.spec_grammar.specs.Blocks.{PlacedLine}
 use Rattle.spec_grammar.specs.BlockReading.{module_of}
 use Rattle.spec_grammar.proofs.BlockLaws.{is_module}
 use Rattle.spec_syntax.specs.Lines.{WordLine}
-use Rattle.spec_syntax.specs.Phases.{too_deep, misplaced, block_of, by_depth, by_lines, read_lines, first_overloaded, first_deep, first_misplaced, parsed}
+use Rattle.spec_syntax.specs.Phases.{too_deep, by_lines, read_lines, first_overloaded, first_misplaced, parsed}
 use Rattle.spec_syntax.proofs.NumberLaws.{none_smallest}
 use Rattle.spec_syntax.proofs.PlacementLaws.{placed_is_module}
 use Rattle.py_tree.specs.declared.ids.StmtId.{StmtId}
@@ -19,10 +18,9 @@ use Rattle.py_tree.specs.Arena.{State, Extends, IsModule, shown_stmt, module_tre
 use Rattle.py_tree.specs.Stmts.{block_tree, AreStmtsBelow}
 use Rattle.py_tree.proofs.Statements.{block_kept}
 use Rattle.py_statements.specs.Given.{IsPlain, ArePlainBehind, AddsPlain, Grows}
-use Rattle.py_placed.specs.declared.placed.PlacedLine as placed
 use Rattle.py_placed.specs.declared.errors.Misread.{Misread}
 use Rattle.py_placed.specs.declared.errors.Misread.TheVariants as misread
-use Rattle.py_placed.specs.Placed.{ArePlaced, GivesLines}
+use Rattle.py_placed.specs.Placed.{GivesLines}
 use Rattle.py_blocks.specs.Growth.{HasExtent, HaveExtents, Builds}
 use Rattle.py_blocks.proofs.Growth.{have_both}
 use Rattle.py_parser.specs.Parsed.{GivesModule, misread_as}
@@ -101,11 +99,6 @@ has_module ps e f =
 
 -- ---- lines
 
--- the lines for which those that were read stand
-pub lines_given : (m : State) (xs : Vec placed.PlacedLine) (r : Result (List PlacedLine) ℕ) → GivesLines m (Ok xs) r → (ps : List PlacedLine) × (r ≡ Ok ps) × ArePlaced m xs.items ps
-lines_given m xs (Ok ps) h = (ps, refl, h)
-lines_given m xs (Err n) h = absurd h
-
 -- the error of lines that are not read tells the first of them
 pub misread_told : (m : State) (e : Misread) (r : Result (List PlacedLine) ℕ) → GivesLines m (Err e) r → GivesModule (Err (misread_as e)) (by_lines r)
 misread_told m (misread.NoLine n) r h = rw h refl
@@ -128,16 +121,7 @@ next_pushed m n xs i d lt p =
 pub all_pushed : (m n : State) (xs : List StmtId) (i : ℕ) → i ≡ length xs → (let s : State = record n { tops = n.tops ++ drop i xs } in s) ≡ (let s : State = record m { tops = m.tops ++ xs } in s) → n ≡ record m { tops = m.tops ++ xs }
 all_pushed m n xs i e p = ap (λ (v : List StmtId). let s : State = record n { tops = v } in s) (sym (append-nil n.tops) ∙ ap (λ (v : List StmtId). n.tops ++ v) (sym (drop-length xs) ∙ ap (λ (k : ℕ). drop k xs) (sym e))) ∙ p
 
--- ---- the phases behind that of lines
-
-pub depth_deep : (ps : List PlacedLine) (n : ℕ) → first_deep ps ≡ Some n → by_depth ps (first_deep ps) ≡ Err (too_deep n)
-depth_deep ps n f = rw f refl
-
-pub depth_misplaced : (ps : List PlacedLine) (n : ℕ) → first_deep ps ≡ None → first_misplaced ps ≡ Some n → by_depth ps (first_deep ps) ≡ Err (misplaced n)
-depth_misplaced ps n f g = rw (f, g) refl
-
-pub depth_whole : (ps : List PlacedLine) → first_deep ps ≡ None → first_misplaced ps ≡ None → by_depth ps (first_deep ps) ≡ Ok (block_of (module_of ps))
-depth_whole ps f g = rw (f, g) refl
+-- ---- the phase of loads
 
 -- the results behind the phase of loads
 pub parsed_deep : (ls : List WordLine) (n : ℕ) → first_overloaded ls ≡ Some n → parsed ls ≡ Err (too_deep n)

@@ -3,7 +3,6 @@ ghost use Rattle.spec_grammar.specs.Blocks as spelled;
 ghost use Rattle.spec_grammar.specs.BlockReading.{module_of};
 ghost use Rattle.spec_syntax.specs.Lines.{word_lines};
 ghost use Rattle.spec_syntax.specs.Phases.{block_of, by_depth, by_lines, first_deep, first_misplaced, parsed, read_lines};
-ghost use Rattle.py_tree.specs.Arena.{IsModule};
 ghost use Rattle.py_statements.specs.Given.{ArePlainBehind};
 ghost use Rattle.py_words.specs.Lines.{line_seen};
 ghost use Rattle.py_placed.specs.Extents.{extents, span_of_words};

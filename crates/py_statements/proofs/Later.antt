@@ -1,12 +1,9 @@
 -- What was read keeps its trees and texts while a module grows.
 use Rattle.std.proofs.Common.{◌≡◌, ℕ, ◌<◌, List, [], ◌∷◌, ◌++◌, length, map, refl, ap, arith, ◌∙◌}
 use Rattle.py_tree.specs.declared.ids.NameId.{NameId}
-use Rattle.py_tree.specs.declared.ids.NamesId.{NamesId}
 use Rattle.py_tree.specs.Arena.{State, IsModule, shown, shown_type}
 use Rattle.py_tree.specs.Names.{text_of, AreNamesBelow}
-use Rattle.py_tree.specs.Stmts.{texts_of}
-use Rattle.py_tree.proofs.Arenas.{names_grow, lists_grow, exprs_grow, types_grow, text_kept, shown_kept, shown_type_kept}
-use Rattle.py_tree.proofs.StmtNodes.{texts_kept}
+use Rattle.py_tree.proofs.Arenas.{names_grow, exprs_grow, types_grow, text_kept, shown_kept, shown_type_kept}
 use Rattle.py_statements.specs.Given.{Grows}
 
 names_push : (k : ℕ) (xs : List NameId) (x : NameId) → AreNamesBelow k xs → x.index < k → AreNamesBelow k (xs ++ x ∷ [])
@@ -23,9 +20,6 @@ module _ (m n : State) (g : Grows m n) (d : IsModule m) where
 
   pub text_later : (x : NameId) → x.index < length m.names → (x.index < length n.names) × (text_of n.names x ≡ text_of m.names x)
   text_later x lt = let more = names_grow m n g.extends in (omega arith, text_kept m n x.index g.extends lt)
-
-  pub texts_later : (l : NamesId) → l.index < length m.lists → (l.index < length n.lists) × (texts_of n l ≡ texts_of m l)
-  texts_later l lt = let more = lists_grow m n g.extends in (omega arith, texts_kept m n g.extends d l lt)
 
   pub names_later : (xs : List NameId) → AreNamesBelow (length m.names) xs → AreNamesBelow (length n.names) xs × (map (text_of n.names) xs ≡ map (text_of m.names) xs)
   names_later [] h = (tt, refl)

@@ -6,7 +6,7 @@ use Rattle.xh_outside.specs.Reading.{content_of, read_within, is_due, read_of, n
 use Rattle.xh_outside.specs.declared.errors.ReadError.TheVariants.{Failed, TooLong}
 use Rattle.spec_first_trees.specs.Bounds.{Bounds}
 use Rattle.spec_first_trees.specs.Program.{Program}
-use Rattle.spec_contracts.specs.Admission.{admit}
+use Rattle.spec_forms.specs.Admission.{Refusal, admit}
 use Rattle.spec_verdicts.specs.Report.{Total, nothing, has_error, report_of, report_of_admission, entry_of, is_failed, targets_total}
 use Rattle.spec_verdicts.specs.Statuses.{IsAdmitted, Passes, Fails, IsRefused, EachTarget, SomeTarget, SomeReadFails}
 use Rattle.spec_verdicts.specs.declared.TheConstants.{READ_LIMIT}
@@ -24,9 +24,9 @@ program_case b files left name p a true e = Failing (record { program = p; admit
 program_case b files left name p a false e = Passing (record { program = p; admitted = a; calm = e }) refl refl
 
 -- a content that is short enough is a program, or is refused at a line
-content_case : (b : Bounds) (files : List (List ℕ × List ℕ)) (left : Option ℕ) (name content : List ℕ) → content_of files name ≡ Some content → length content ≤ READ_LIMIT → (a : Result Program ℕ) → admit content ≡ a → Outcome b files left name (report_of_admission name b a).status false
+content_case : (b : Bounds) (files : List (List ℕ × List ℕ)) (left : Option ℕ) (name content : List ℕ) → content_of files name ≡ Some content → length content ≤ READ_LIMIT → (a : Result Program Refusal) → admit content ≡ a → Outcome b files left name (report_of_admission name b a).status false
 content_case b files left name content found short (Ok p) e = program_case b files left name p (record { content = content; found = found; short = short; admitted = e }) (list_any (has_error b) p.functions) refl
-content_case b files left name content found short (Err line) e = Refusing (record { content = content; found = found; refused = inr (line, e) }) refl refl
+content_case b files left name content found short (Err r) e = Refusing (record { content = content; found = found; refused = inr (r, e) }) refl refl
 
 -- a content that is held is short enough, or is refused
 within_case : (b : Bounds) (files : List (List ℕ × List ℕ)) (left : Option ℕ) (name content : List ℕ) → content_of files name ≡ Some content → (fits : Bool) → nat_le (length content) READ_LIMIT ≡ fits

@@ -12,7 +12,7 @@ use Rattle.spec_running.specs.States.{Heap, Locals}
 use Rattle.spec_running.specs.Operations.{truth}
 use Rattle.spec_running.specs.Running.{eval, fresh, bound}
 use Rattle.spec_calls.specs.Calls.{Call, made}
-use Rattle.spec_contracts.specs.Names.{returned_name}
+use Rattle.spec_forms.specs.Names.{returned_name}
 use Rattle.spec_verdicts.specs.Judging.{Judged, Unmet, Limited, Ended, judged}
 
 pub data Fault : Type 0 where

@@ -7,7 +7,7 @@ use Rattle.xh_outside.specs.declared.errors.ReadError.TheVariants.{Failed, TooLo
 use Rattle.xh_outside.specs.Reading.{read_of, next_left}
 use Rattle.spec_first_trees.specs.Bounds.{Bounds}
 use Rattle.spec_first_trees.specs.Program.{Program, Function, Condition, Raises, Post}
-use Rattle.spec_contracts.specs.Admission.{admit}
+use Rattle.spec_forms.specs.Admission.{Refusal, admit}
 use Rattle.spec_verdicts.specs.Verdicts.{Verdict, Error, NotConfirmed, Unmet, Confirmed, verdict}
 use Rattle.spec_verdicts.specs.Lines.{verdict_line, refusal_line, fault_line, usage}
 use Rattle.spec_verdicts.specs.Settings.{Settings, settings}
@@ -71,9 +71,9 @@ program_report name bounds p = record {
 }
 
 -- the report of an admitted program, or the refusal
-abbrev pub report_of_admission : List ℕ → Bounds → Result Program ℕ → Report
+abbrev pub report_of_admission : List ℕ → Bounds → Result Program Refusal → Report
 report_of_admission name bounds (Ok p) = program_report name bounds p
-report_of_admission name bounds (Err line) = refused (refusal_line name line (codes "NotBuilt"))
+report_of_admission name bounds (Err r) = refused (refusal_line name r.line r.kind)
 
 -- what a content adds
 unfoldable pub report_of : Bounds → List ℕ → List ℕ → Report

@@ -4,7 +4,7 @@ use Rattle.std.specs.List.{list_any}
 use Rattle.xh_outside.specs.Reading.{content_of, next_left}
 use Rattle.spec_first_trees.specs.Bounds.{Bounds}
 use Rattle.spec_first_trees.specs.Program.{Program}
-use Rattle.spec_contracts.specs.Admission.{admit}
+use Rattle.spec_forms.specs.Admission.{Refusal, admit}
 use Rattle.spec_verdicts.specs.Report.{has_error}
 use Rattle.spec_verdicts.specs.declared.TheConstants.{READ_LIMIT}
 
@@ -31,7 +31,7 @@ pub record Fails (bounds : Bounds) (files : List (List ℕ × List ℕ)) (name :
 pub record IsRefused (files : List (List ℕ × List ℕ)) (name : List ℕ) : Type 0 where
   pub content : List ℕ
   pub found : content_of files name ≡ Some content
-  pub refused : (READ_LIMIT < length content) ⊎ ((line : ℕ) × (admit content ≡ Err line))
+  pub refused : (READ_LIMIT < length content) ⊎ ((r : Refusal) × (admit content ≡ Err r))
 
 -- P holds of each target
 abbrev pub EachTarget : (List ℕ → Type 0) → List (List ℕ) → Type 0

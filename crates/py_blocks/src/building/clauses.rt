@@ -1,4 +1,4 @@
-ghost use Rattle.std.specs.Prelude.{◌≡◌, ◌+◌, ◌^◌, ◌<◌, List, [], ◌∷◌, length, drop};
+ghost use Rattle.std.specs.Prelude.{◌+◌, ◌^◌, ◌<◌, List, [], ◌∷◌, length, drop};
 ghost use Rattle.spec_trees.specs.Module as tree;
 ghost use Rattle.spec_grammar.specs.Blocks as spelled;
 ghost use Rattle.spec_grammar.specs.Blocks.{catches_all};

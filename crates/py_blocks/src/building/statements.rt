@@ -1,4 +1,4 @@
-ghost use Rattle.std.specs.Prelude.{◌≡◌, ◌+◌, ◌^◌, ◌<◌, List, Option, length, drop};
+ghost use Rattle.std.specs.Prelude.{◌+◌, ◌^◌, ◌<◌, List, Option, length, drop};
 ghost use Rattle.spec_trees.specs.Stmt.{Simple};
 ghost use Rattle.spec_grammar.specs.Blocks as spelled;
 ghost use Rattle.spec_grammar.specs.BlockReading.{block_with, body_with, statement_below};

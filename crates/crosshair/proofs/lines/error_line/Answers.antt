@@ -1,5 +1,6 @@
 use Rattle.std.proofs.Common.{◌++◌, ap, ◌∙◌}
-use Rattle.crosshair.specs.Meaning.{call_in, fault_in, function_in}
+use Rattle.first_tree.specs.Functions.{function_in}
+use Rattle.crosshair.specs.Meaning.{call_in, fault_in}
 use Rattle.crosshair.proofs.Texts.{error_added}
 use Rattle.crosshair.proofs.lines.error_line.Goals as goal
 

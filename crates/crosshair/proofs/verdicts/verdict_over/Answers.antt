@@ -3,7 +3,8 @@ use Rattle.std.specs.Prelude.{slice_index_or}
 use Rattle.std.proofs.lemmas.List.{drop_all}
 use Rattle.first_tree.specs.BoundsOf.{bounds_of}
 use Rattle.crosshair.specs.declared.calls.Call.{Call}
-use Rattle.crosshair.specs.Meaning.{function_in, condition_in}
+use Rattle.first_tree.specs.Functions.{function_in}
+use Rattle.crosshair.specs.Meaning.{condition_in}
 use Rattle.crosshair.proofs.Tries.{Tried, tried_broken, tried_all}
 use Rattle.crosshair.proofs.verdicts.verdict_over.Goals as goal
 

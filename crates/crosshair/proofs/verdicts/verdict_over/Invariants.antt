@@ -1,6 +1,7 @@
 use Rattle.std.proofs.Common.{drop}
 use Rattle.first_tree.specs.BoundsOf.{bounds_of}
-use Rattle.crosshair.specs.Meaning.{function_in, condition_in}
+use Rattle.first_tree.specs.Functions.{function_in}
+use Rattle.crosshair.specs.Meaning.{condition_in}
 use Rattle.crosshair.proofs.Tries.{Tried}
 use Rattle.crosshair.proofs.verdicts.verdict_over.Given as goal
 

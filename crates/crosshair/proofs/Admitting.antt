@@ -1,0 +1,89 @@
+-- What a content is admitted as, from what its phases answer.
+use Rattle.std.proofs.Common.{◌≡◌, ℕ, Bool, true, false, List, [], Option, Some, None, Result, Ok, Err, refl, sym, ap, ◌∙◌, if◌then◌else◌}
+use Rattle.std.specs.Prelude.{IsUtf8, chars, codes}
+use Rattle.std.specs.Str.{is_utf8}
+use Rattle.std.proofs.lemmas.Str.{IsUtf8-from_is_utf8, is_utf8-from_IsUtf8}
+use Rattle.spec_first_trees.specs.Program.{Function, Program}
+use Rattle.spec_tokens.specs.declared.Refusal as tokens
+use Rattle.spec_tokens.specs.Letters.{letters_of}
+use Rattle.spec_tokens.specs.Cutting.{pieces_of}
+use Rattle.spec_tokens.specs.Tokens.{Scan, IsScan, tokens_of}
+use Rattle.spec_tokens.proofs.Cuts.{pieces_only}
+use Rattle.spec_trees.specs.Module as tree
+use Rattle.spec_trees.specs.Module.{Block}
+use Rattle.spec_syntax.specs.Lines.{word_lines}
+use Rattle.spec_syntax.specs.Phases.{Misfit, parsed}
+use Rattle.spec_forms.specs.Forms.{functions_of}
+use Rattle.spec_forms.specs.Admission.{Refusal, as_tokens, as_block, formed, refused, invalid_line, admit, admit_text}
+use Rattle.py_tokens.specs.declared.errors.TokenError.{TokenError}
+use Rattle.py_tokens.specs.declared.errors.TokenError.TheVariants as token
+use Rattle.py_tokens.specs.Scanned.{IsRefused, refusal_of}
+use Rattle.py_tree.specs.Arena.{State, module_tree}
+use Rattle.py_parser.specs.declared.errors.SyntaxError.{SyntaxError}
+use Rattle.py_parser.specs.declared.errors.SyntaxError.TheVariants as syntax
+use Rattle.py_parser.specs.Parsed.{GivesModule}
+use Rattle.first_tree.specs.Arena.{ModuleState}
+use Rattle.first_forms.specs.declared.errors.FormError.{FormError}
+use Rattle.first_forms.specs.declared.errors.FormError.TheVariants as form
+use Rattle.first_forms.specs.Formed.{AreFormed}
+use Rattle.crosshair.specs.Answers.{IsAdmission}
+use Rattle.crosshair.specs.Refusals.{token_refusal, syntax_refusal, form_refusal}
+
+-- ---- the encoding
+
+pub admitted_text : (content : List ℕ) → IsUtf8 content → admit content ≡ admit_text (chars content)
+unfolding admit
+admitted_text content h = rw (is_utf8-from_IsUtf8 content h) refl
+
+pub not_utf8 : (content : List ℕ) → (IsUtf8 content → ⊥) → admit content ≡ refused (invalid_line content) (codes "NotUtf8")
+unfolding admit
+not_utf8 content h = by_test (is_utf8 content) refl
+  where
+    by_test : (b : Bool) → is_utf8 content ≡ b → (if b then admit_text (chars content) else refused (invalid_line content) (codes "NotUtf8")) ≡ refused (invalid_line content) (codes "NotUtf8")
+    by_test true e = absurd (h (IsUtf8-from_is_utf8 content e))
+    by_test false e = refl
+
+-- ---- tokens
+
+text_is : (text : List ℕ) (r : Result Scan tokens.Refusal) → IsScan text r → admit_text text ≡ as_tokens r
+unfolding admit_text
+text_is text r h = ap as_tokens (sym (scan_is text r h))
+  where
+    scan_is : (text : List ℕ) (r : Result Scan tokens.Refusal) → IsScan text r → r ≡ tokens_of text (pieces_of (letters_of text))
+    scan_is text r h = h.is ∙ ap (λ ps. tokens_of text ps) (pieces_only (letters_of text) h.pieces h.cut)
+
+pub tokens_refused : (bytes : List ℕ) (e : TokenError) → IsRefused bytes (refusal_of e) → IsAdmission (admit_text (chars bytes)) (Err (token_refusal e))
+tokens_refused bytes (token.BadCharacter n) h = text_is (chars bytes) _ h
+tokens_refused bytes (token.MixedIndent n) h = text_is (chars bytes) _ h
+tokens_refused bytes (token.BadDedent n) h = text_is (chars bytes) _ h
+tokens_refused bytes (token.OpenString n) h = text_is (chars bytes) _ h
+tokens_refused bytes (token.OpenBracket n) h = text_is (chars bytes) _ h
+tokens_refused bytes (token.BigInteger n) h = text_is (chars bytes) _ h
+tokens_refused bytes (token.NumberForm n) h = text_is (chars bytes) _ h
+tokens_refused bytes (token.EscapeForm n) h = text_is (chars bytes) _ h
+tokens_refused bytes token.NoMemory h = tt
+
+-- ---- blocks
+
+pub blocks_refused : (bytes : List ℕ) (s : Scan) (e : SyntaxError) → IsScan (chars bytes) (Ok s) → GivesModule (Err e) (parsed (word_lines s)) → IsAdmission (admit_text (chars bytes)) (Err (syntax_refusal e))
+blocks_refused bytes s (syntax.Line n) h g = text_is (chars bytes) (Ok s) h ∙ ap as_block g
+blocks_refused bytes s (syntax.TooDeep n) h g = text_is (chars bytes) (Ok s) h ∙ ap as_block g
+blocks_refused bytes s (syntax.Block n) h g = text_is (chars bytes) (Ok s) h ∙ ap as_block g
+blocks_refused bytes s syntax.NoMemory h g = tt
+
+-- the functions of the block that is read
+block_is : (bytes : List ℕ) (s : Scan) (m : State) → IsScan (chars bytes) (Ok s) → GivesModule (Ok m) (parsed (word_lines s)) → admit_text (chars bytes) ≡ formed (functions_of [] (module_tree m).body)
+block_is bytes s m h g = text_is (chars bytes) (Ok s) h ∙ by_block (parsed (word_lines s)) g
+  where
+    by_block : (r : Result Block Misfit) → GivesModule (Ok m) r → as_block r ≡ formed (functions_of [] (module_tree m).body)
+    by_block (Ok b) e = ap (λ (t : tree.Module). formed (functions_of [] t.body)) (sym e)
+    by_block (Err f) e = absurd e
+
+-- ---- functions
+
+pub functions_refused : (bytes : List ℕ) (s : Scan) (m : State) (e : FormError) → IsScan (chars bytes) (Ok s) → GivesModule (Ok m) (parsed (word_lines s)) → AreFormed (Err e) (functions_of [] (module_tree m).body) → IsAdmission (admit_text (chars bytes)) (Err (form_refusal e))
+functions_refused bytes s m (form.NotBuilt n) h g f = block_is bytes s m h g ∙ ap formed f
+functions_refused bytes s m form.NoMemory h g f = tt
+
+pub functions_admitted : (bytes : List ℕ) (s : Scan) (m : State) (r : ModuleState) → IsScan (chars bytes) (Ok s) → GivesModule (Ok m) (parsed (word_lines s)) → AreFormed (Ok r) (functions_of [] (module_tree m).body) → IsAdmission (admit_text (chars bytes)) (Ok r)
+functions_admitted bytes s m r h g f = block_is bytes s m h g ∙ ap formed f

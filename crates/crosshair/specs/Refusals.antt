@@ -1,0 +1,31 @@
+-- The refusals that the errors of the phases are.
+use Rattle.py_tokens.specs.declared.errors.TokenError.{TokenError}
+use Rattle.py_tokens.specs.declared.errors.TokenError.TheVariants as token
+use Rattle.py_parser.specs.declared.errors.SyntaxError.{SyntaxError}
+use Rattle.py_parser.specs.declared.errors.SyntaxError.TheVariants as syntax
+use Rattle.first_forms.specs.declared.errors.FormError.{FormError}
+use Rattle.first_forms.specs.declared.errors.FormError.TheVariants as form
+use Rattle.crosshair.specs.declared.admission.StageError.{StageError}
+use Rattle.crosshair.specs.declared.admission.StageError.TheVariants.{Refused, NoMemory}
+use Rattle.crosshair.specs.declared.refusals.RefusalKind.TheVariants as kind
+
+abbrev pub token_refusal : TokenError → StageError
+token_refusal (token.BadCharacter n) = Refused n kind.BadCharacter
+token_refusal (token.MixedIndent n) = Refused n kind.MixedIndent
+token_refusal (token.BadDedent n) = Refused n kind.BadDedent
+token_refusal (token.OpenString n) = Refused n kind.OpenString
+token_refusal (token.OpenBracket n) = Refused n kind.OpenBracket
+token_refusal (token.BigInteger n) = Refused n kind.BigInteger
+token_refusal (token.NumberForm n) = Refused n kind.NumberForm
+token_refusal (token.EscapeForm n) = Refused n kind.EscapeForm
+token_refusal token.NoMemory = NoMemory
+
+abbrev pub syntax_refusal : SyntaxError → StageError
+syntax_refusal (syntax.Line n) = Refused n kind.Line
+syntax_refusal (syntax.TooDeep n) = Refused n kind.TooDeep
+syntax_refusal (syntax.Block n) = Refused n kind.Block
+syntax_refusal syntax.NoMemory = NoMemory
+
+abbrev pub form_refusal : FormError → StageError
+form_refusal (form.NotBuilt n) = Refused n kind.NotBuilt
+form_refusal form.NoMemory = NoMemory

@@ -1,0 +1,4 @@
+pub mod BodyParts
+pub mod Fitting
+pub mod HeaderParts
+pub mod Marks

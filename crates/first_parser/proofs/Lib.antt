@@ -1,4 +1,0 @@
-pub mod FileSteps
-pub mod LineParts
-pub mod Turns
-pub mod Whole

@@ -1,4 +1,0 @@
-pub mod Answers
-pub mod Limits
-pub mod Lines
-pub mod Parts

@@ -1,4 +1,0 @@
-pub mod Values
-pub mod Sizes
-pub mod Fronts
-pub mod Cuts

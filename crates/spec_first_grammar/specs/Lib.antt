@@ -1,4 +1,0 @@
-pub mod Marks
-pub mod Grammar
-pub mod Height
-pub mod Reading
