@@ -1,0 +1,4 @@
+pub mod Docstrings
+pub mod Heads
+pub mod Entries
+pub mod Owners
