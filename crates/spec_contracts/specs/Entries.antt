@@ -1,5 +1,5 @@
 -- The contract lines of a docstring, and the blocks below them.
-use Rattle.std.specs.Prelude.{ℕ, Bool, true, false, not, ◌&&◌, ◌||◌, ◌==◌, nat_lt, List, [], ◌∷◌, ◌++◌, length, Option, Some, None, if◌then◌else◌}
+use Rattle.std.specs.Prelude.{ℕ, Bool, true, false, not, ◌&&◌, ◌==◌, nat_lt, List, [], ◌∷◌, ◌++◌, length, Option, Some, None, if◌then◌else◌}
 use Rattle.std.specs.List.{list_any}
 use Rattle.spec_syntax.specs.Texts.{unindented}
 use Rattle.spec_contracts.specs.declared.LineKind.{LineKind}
@@ -45,9 +45,13 @@ abbrev pub is_comment : List ℕ → Bool
 is_comment [] = false
 is_comment (c ∷ s) = c == 35
 
--- what a line holds; a backslash is not read where the literal is not raw
+-- a backslash, where the literal is not raw
+abbrev pub is_escaped : Bool → DocLine → Bool
+is_escaped raw l = not raw && list_any (λ c. c == 92) l.text
+
+-- what a line holds; where it has such a backslash, it is not read
 abbrev pub unless_escaped : Bool → DocLine → Content → Content
-unless_escaped raw l x = if not raw && list_any (λ c. c == 92) l.text then unread else x
+unless_escaped raw l x = if is_escaped raw l then unread else x
 
 abbrev pub listed : Option (List (List ℕ)) → Content
 listed (Some xs) = classes xs
@@ -66,10 +70,6 @@ opened l h = record { head = l.number; indent = l.indent; kind = h.kind; names =
 abbrev pub closed : Opened → List Entry
 closed b = if b.is_empty then record { line = b.head; head = b.head; kind = b.kind; names = b.names; content = unread } ∷ [] else []
 
--- a line that a block goes on with
-abbrev pub is_within : Opened → DocLine → Bool
-is_within b l = length l.text == 0 || nat_lt b.indent l.indent
-
 abbrev pub entry_in : Bool → Opened → DocLine → Content → Entry
 entry_in raw b l x = record { line = l.number; head = b.head; kind = b.kind; names = b.names; content = unless_escaped raw l x }
 
@@ -78,18 +78,20 @@ abbrev pub begun : Bool → DocLine → Option Head → (Option Opened → List 
 begun raw l None on = on None
 begun raw l (Some h) on = if not (is_raises h.kind) && is_empty_text h.rest then on (Some (opened l h)) else entry_of raw l h ∷ on None
 
--- a line of a block
-abbrev pub continued : Bool → Opened → DocLine → (Option Opened → List Entry) → List Entry
-continued raw b l on = if length l.text == 0 then on (Some b) else if is_comment l.text then commented (unless_escaped raw l (spelled [])) else entry_in raw b l (spelled l.text) ∷ on (Some (record b { is_empty = false }))
-  where
-    commented : Content → List Entry
-    commented unread = entry_in raw b l unread ∷ on (Some b)
-    commented (spelled s) = on (Some b)
-    commented (classes xs) = on (Some b)
+-- a comment in a block is none of its expressions
+abbrev pub commented : Bool → Opened → DocLine → List Entry
+commented raw b l = if is_escaped raw l then entry_in raw b l unread ∷ [] else []
 
--- the entries of lines, behind an open block where there is one
+-- a line of a block that is not empty
+abbrev pub continued : Bool → Opened → DocLine → (Option Opened → List Entry) → List Entry
+continued raw b l on = if is_comment l.text then commented raw b l ++ on (Some b) else entry_in raw b l (spelled l.text) ∷ on (Some (record b { is_empty = false }))
+
+-- The entries of lines, behind an open block where there is one. It goes on over empty lines and lines that stand deeper.
 abbrev pub entries : Bool → Option Opened → List DocLine → List Entry
 entries raw None [] = []
 entries raw (Some b) [] = closed b
 entries raw None (l ∷ ls) = begun raw l (head_of l.text) (λ o. entries raw o ls)
-entries raw (Some b) (l ∷ ls) = if is_within b l then continued raw b l (λ o. entries raw o ls) else closed b ++ begun raw l (head_of l.text) (λ o. entries raw o ls)
+entries raw (Some b) (l ∷ ls) =
+    if length l.text == 0 then entries raw (Some b) ls
+    else if nat_lt b.indent l.indent then continued raw b l (λ o. entries raw o ls)
+    else closed b ++ begun raw l (head_of l.text) (λ o. entries raw o ls)

@@ -1,5 +1,5 @@
 -- The contract lines of a module, or the first refusal among them.
-use Rattle.std.specs.Prelude.{ℕ, suc, ◌+◌, Bool, true, false, not, ◌&&◌, ◌==◌, nat_lt, List, [], ◌∷◌, ◌++◌, map, Option, Some, None, Result, Ok, Err, if◌then◌else◌}
+use Rattle.std.specs.Prelude.{◌≡◌, ℕ, suc, ◌+◌, Bool, true, false, not, ◌&&◌, ◌==◌, nat_lt, List, [], ◌∷◌, ◌++◌, map, Option, Some, None, Result, Ok, Err, if◌then◌else◌}
 use Rattle.std.specs.List.{list_all, list_any, flat_map}
 use Rattle.std.specs.Str.{bytes_eq}
 use Rattle.spec_trees.specs.Expr.{Expr, StringPart}
@@ -111,6 +111,11 @@ sooner r (Some s) = if is_sooner s r then Some s else Some r
 abbrev pub first_refusal : List Refusal → Option Refusal
 first_refusal [] = None
 first_refusal (r ∷ rs) = sooner r (first_refusal rs)
+
+-- none of these comes before a refusal
+abbrev pub AreLater : Refusal → List Refusal → Type 0
+AreLater r [] = Unit {0}
+AreLater r (s ∷ ss) = (is_sooner s r ≡ false) × AreLater r ss
 
 -- ---- modules
 

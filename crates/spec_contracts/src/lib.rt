@@ -1,6 +1,9 @@
 //! The contract lines of a module: the lines of docstrings that hold contracts, and why they are refused (PEP 316).
 #![tactic(auto)]
 
+ghost use Rattle.std.specs.Prelude.{◌≡◌, List, Some};
+ghost use Rattle.spec_contracts.specs.Owners.{Refusal, first_refusal, AreLater};
+
 /// What a contract line promises.
 #[derive(Clone, Copy, Debug, PartialEq, Eq)]
 pub enum LineKind {
@@ -42,3 +45,8 @@ pub const EXCEPTION_CLASSES: [&str; 14] = [
     "RuntimeError",
     "NotImplementedError",
 ];
+
+/// The first refusal is the soonest of all.
+pub fn the_first_refusal_is_the_soonest()
+    ensures { (rs : List Refusal) (r : Refusal) → first_refusal rs ≡ Some r → AreLater r rs }
+{}
