@@ -1,9 +1,8 @@
 -- What a content is admitted as, from what its phases answer.
-use Rattle.std.proofs.Common.{◌≡◌, ℕ, Bool, true, false, List, [], Option, Some, None, Result, Ok, Err, refl, sym, ap, ◌∙◌, if◌then◌else◌}
+use Rattle.std.proofs.Common.{◌≡◌, ℕ, Bool, true, false, List, [], Result, Ok, Err, refl, sym, ap, ◌∙◌, if◌then◌else◌}
 use Rattle.std.specs.Prelude.{IsUtf8, chars, codes}
 use Rattle.std.specs.Str.{is_utf8}
 use Rattle.std.proofs.lemmas.Str.{IsUtf8-from_is_utf8, is_utf8-from_IsUtf8}
-use Rattle.spec_first_trees.specs.Program.{Function, Program}
 use Rattle.spec_tokens.specs.declared.Refusal as tokens
 use Rattle.spec_tokens.specs.Letters.{letters_of}
 use Rattle.spec_tokens.specs.Cutting.{pieces_of}
@@ -13,8 +12,9 @@ use Rattle.spec_trees.specs.Module as tree
 use Rattle.spec_trees.specs.Module.{Block}
 use Rattle.spec_syntax.specs.Lines.{word_lines}
 use Rattle.spec_syntax.specs.Phases.{Misfit, parsed}
+use Rattle.spec_contracts.specs.ContractLines.{contracts_of}
 use Rattle.spec_forms.specs.Forms.{functions_of}
-use Rattle.spec_forms.specs.Admission.{Refusal, as_tokens, as_block, formed, refused, invalid_line, admit, admit_text}
+use Rattle.spec_forms.specs.Admission.{as_tokens, as_block, as_contracts, formed, refused, invalid_line, admit, admit_text}
 use Rattle.py_tokens.specs.declared.errors.TokenError.{TokenError}
 use Rattle.py_tokens.specs.declared.errors.TokenError.TheVariants as token
 use Rattle.py_tokens.specs.Scanned.{IsRefused, refusal_of}
@@ -22,12 +22,16 @@ use Rattle.py_tree.specs.Arena.{State, module_tree}
 use Rattle.py_parser.specs.declared.errors.SyntaxError.{SyntaxError}
 use Rattle.py_parser.specs.declared.errors.SyntaxError.TheVariants as syntax
 use Rattle.py_parser.specs.Parsed.{GivesModule}
+use Rattle.contract_lines.specs.declared.contracts.ContractLine.{ContractLine}
+use Rattle.contract_lines.specs.declared.errors.ContractError.{ContractError}
+use Rattle.contract_lines.specs.declared.errors.ContractError.TheVariants as contract
+use Rattle.contract_lines.specs.Given.{GivesContracts}
 use Rattle.first_tree.specs.Arena.{ModuleState}
 use Rattle.first_forms.specs.declared.errors.FormError.{FormError}
 use Rattle.first_forms.specs.declared.errors.FormError.TheVariants as form
 use Rattle.first_forms.specs.Formed.{AreFormed}
 use Rattle.crosshair.specs.Answers.{IsAdmission}
-use Rattle.crosshair.specs.Refusals.{token_refusal, syntax_refusal, form_refusal}
+use Rattle.crosshair.specs.Refusals.{token_refusal, syntax_refusal, contract_refusal, form_refusal}
 
 -- ---- the encoding
 
@@ -71,19 +75,32 @@ blocks_refused bytes s (syntax.TooDeep n) h g = text_is (chars bytes) (Ok s) h �
 blocks_refused bytes s (syntax.Block n) h g = text_is (chars bytes) (Ok s) h ∙ ap as_block g
 blocks_refused bytes s syntax.NoMemory h g = tt
 
--- the functions of the block that is read
-block_is : (bytes : List ℕ) (s : Scan) (m : State) → IsScan (chars bytes) (Ok s) → GivesModule (Ok m) (parsed (word_lines s)) → admit_text (chars bytes) ≡ formed (functions_of [] (module_tree m).body)
+-- the contract lines and the functions of the block that is read
+block_is : (bytes : List ℕ) (s : Scan) (m : State) → IsScan (chars bytes) (Ok s) → GivesModule (Ok m) (parsed (word_lines s)) → admit_text (chars bytes) ≡ as_contracts (module_tree m).body (contracts_of (module_tree m).body)
 block_is bytes s m h g = text_is (chars bytes) (Ok s) h ∙ by_block (parsed (word_lines s)) g
   where
-    by_block : (r : Result Block Misfit) → GivesModule (Ok m) r → as_block r ≡ formed (functions_of [] (module_tree m).body)
-    by_block (Ok b) e = ap (λ (t : tree.Module). formed (functions_of [] t.body)) (sym e)
+    by_block : (r : Result Block Misfit) → GivesModule (Ok m) r → as_block r ≡ as_contracts (module_tree m).body (contracts_of (module_tree m).body)
+    by_block (Ok b) e = ap (λ (t : tree.Module). as_contracts t.body (contracts_of t.body)) (sym e)
     by_block (Err f) e = absurd e
+
+-- ---- contract lines
+
+pub contracts_refused : (bytes : List ℕ) (s : Scan) (m n : State) (e : ContractError) → IsScan (chars bytes) (Ok s) → GivesModule (Ok m) (parsed (word_lines s)) → GivesContracts n (Err e) (contracts_of (module_tree m).body) → IsAdmission (admit_text (chars bytes)) (Err (contract_refusal e))
+contracts_refused bytes s m n (contract.BadExpression k) h g c = block_is bytes s m h g ∙ ap (as_contracts (module_tree m).body) c
+contracts_refused bytes s m n (contract.UnknownName k) h g c = block_is bytes s m h g ∙ ap (as_contracts (module_tree m).body) c
+contracts_refused bytes s m n (contract.Misplaced k) h g c = block_is bytes s m h g ∙ ap (as_contracts (module_tree m).body) c
+contracts_refused bytes s m n contract.NoMemory h g c = tt
 
 -- ---- functions
 
-pub functions_refused : (bytes : List ℕ) (s : Scan) (m : State) (e : FormError) → IsScan (chars bytes) (Ok s) → GivesModule (Ok m) (parsed (word_lines s)) → AreFormed (Err e) (functions_of [] (module_tree m).body) → IsAdmission (admit_text (chars bytes)) (Err (form_refusal e))
-functions_refused bytes s m (form.NotBuilt n) h g f = block_is bytes s m h g ∙ ap formed f
-functions_refused bytes s m form.NoMemory h g f = tt
+-- the functions of a module whose contract lines are read, and which is another state behind them
+module _ (bytes : List ℕ) (s : Scan) (m n : State) (ls : List ContractLine) (h : IsScan (chars bytes) (Ok s)) (g : GivesModule (Ok m) (parsed (word_lines s))) (c : GivesContracts n (Ok ls) (contracts_of (module_tree m).body)) (t : module_tree n ≡ module_tree m) where
+  functions_are : admit_text (chars bytes) ≡ formed (functions_of [] (module_tree n).body)
+  functions_are = block_is bytes s m h g ∙ ap (as_contracts (module_tree m).body) c.1 ∙ ap (λ (u : tree.Module). formed (functions_of [] u.body)) (sym t)
 
-pub functions_admitted : (bytes : List ℕ) (s : Scan) (m : State) (r : ModuleState) → IsScan (chars bytes) (Ok s) → GivesModule (Ok m) (parsed (word_lines s)) → AreFormed (Ok r) (functions_of [] (module_tree m).body) → IsAdmission (admit_text (chars bytes)) (Ok r)
-functions_admitted bytes s m r h g f = block_is bytes s m h g ∙ ap formed f
+  pub functions_refused : (e : FormError) → AreFormed (Err e) (functions_of [] (module_tree n).body) → IsAdmission (admit_text (chars bytes)) (Err (form_refusal e))
+  functions_refused (form.NotBuilt k) f = functions_are ∙ ap formed f
+  functions_refused form.NoMemory f = tt
+
+  pub functions_admitted : (r : ModuleState) → AreFormed (Ok r) (functions_of [] (module_tree n).body) → IsAdmission (admit_text (chars bytes)) (Ok r)
+  functions_admitted r f = functions_are ∙ ap formed f

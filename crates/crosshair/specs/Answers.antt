@@ -23,6 +23,9 @@ kind_name kind.EscapeForm = codes "EscapeForm"
 kind_name kind.Line = codes "Line"
 kind_name kind.TooDeep = codes "TooDeep"
 kind_name kind.Block = codes "Block"
+kind_name kind.BadExpression = codes "BadExpression"
+kind_name kind.UnknownName = codes "UnknownName"
+kind_name kind.Misplaced = codes "Misplaced"
 kind_name kind.NotBuilt = codes "NotBuilt"
 
 -- a module stands for the program of its functions, or the content is refused at a line

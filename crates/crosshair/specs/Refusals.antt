@@ -3,6 +3,8 @@ use Rattle.py_tokens.specs.declared.errors.TokenError.{TokenError}
 use Rattle.py_tokens.specs.declared.errors.TokenError.TheVariants as token
 use Rattle.py_parser.specs.declared.errors.SyntaxError.{SyntaxError}
 use Rattle.py_parser.specs.declared.errors.SyntaxError.TheVariants as syntax
+use Rattle.contract_lines.specs.declared.errors.ContractError.{ContractError}
+use Rattle.contract_lines.specs.declared.errors.ContractError.TheVariants as contract
 use Rattle.first_forms.specs.declared.errors.FormError.{FormError}
 use Rattle.first_forms.specs.declared.errors.FormError.TheVariants as form
 use Rattle.crosshair.specs.declared.admission.StageError.{StageError}
@@ -25,6 +27,12 @@ syntax_refusal (syntax.Line n) = Refused n kind.Line
 syntax_refusal (syntax.TooDeep n) = Refused n kind.TooDeep
 syntax_refusal (syntax.Block n) = Refused n kind.Block
 syntax_refusal syntax.NoMemory = NoMemory
+
+abbrev pub contract_refusal : ContractError → StageError
+contract_refusal (contract.BadExpression n) = Refused n kind.BadExpression
+contract_refusal (contract.UnknownName n) = Refused n kind.UnknownName
+contract_refusal (contract.Misplaced n) = Refused n kind.Misplaced
+contract_refusal contract.NoMemory = NoMemory
 
 abbrev pub form_refusal : FormError → StageError
 form_refusal (form.NotBuilt n) = Refused n kind.NotBuilt

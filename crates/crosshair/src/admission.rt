@@ -5,6 +5,7 @@ ghost use Rattle.spec_forms.specs.Admission.{admit, admit_text};
 ghost use Rattle.crosshair.specs.Answers.{IsAdmission};
 
 use crate::refusals::RefusalKind;
+use contract_lines::{ContractError, conditions};
 use first_forms::{FormError, functions};
 use first_tree::Module;
 use py_parser::{SyntaxError, module};
@@ -61,6 +62,24 @@ impl From<SyntaxError> for StageError {
     }
 }
 
+impl From<ContractError> for StageError {
+    ghost use Rattle.std.specs.Prelude.{◌≡◌};
+    ghost use Rattle.crosshair.specs.Refusals.{contract_refusal};
+
+    ghost from_gives = { λ c e. e ≡ contract_refusal c };
+
+    fn from(error: ContractError) -> Self {
+        match error {
+            ContractError::BadExpression(line) => {
+                StageError::Refused(line, RefusalKind::BadExpression)
+            }
+            ContractError::UnknownName(line) => StageError::Refused(line, RefusalKind::UnknownName),
+            ContractError::Misplaced(line) => StageError::Refused(line, RefusalKind::Misplaced),
+            ContractError::NoMemory => StageError::NoMemory,
+        }
+    }
+}
+
 impl From<FormError> for StageError {
     ghost use Rattle.std.specs.Prelude.{◌≡◌};
     ghost use Rattle.crosshair.specs.Refusals.{form_refusal};
@@ -90,13 +109,15 @@ fn line_at(content: &[u8], place: usize) -> u32
     line
 }
 
-/// Reads a text: its tokens, its blocks and its functions, in this order. The first that refuses decides.
+/// Reads a text: its tokens, its blocks, its contract lines and its functions, in this order. The first that refuses
+/// decides.
 fn admit_text(alloc: Global, text: &str) -> Result<Module, StageError>
     requires { length text.now < 2 ^ 31 }
     ensures { IsAdmission (admit_text (chars text.now)) result }
 {
     let tokens = scan(alloc, text)?;
-    let module = module(alloc, &tokens)?;
+    let mut module = module(alloc, &tokens)?;
+    conditions(alloc, &mut module)?;
     Ok(functions(alloc, &module)?)
 }
 

@@ -16,6 +16,9 @@ pub enum RefusalKind {
     Line,
     TooDeep,
     Block,
+    BadExpression,
+    UnknownName,
+    Misplaced,
     NotBuilt,
 }
 
@@ -37,6 +40,9 @@ impl RefusalKind {
             RefusalKind::Line => "Line",
             RefusalKind::TooDeep => "TooDeep",
             RefusalKind::Block => "Block",
+            RefusalKind::BadExpression => "BadExpression",
+            RefusalKind::UnknownName => "UnknownName",
+            RefusalKind::Misplaced => "Misplaced",
             RefusalKind::NotBuilt => "NotBuilt",
         }
     }

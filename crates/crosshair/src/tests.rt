@@ -130,7 +130,7 @@ fn answers_the_status(rt: HostRuntime) -> Result<(), Fail> {
 #[test]
 fn refuses_contents(rt: HostRuntime) -> Result<(), Fail> {
     let alloc = rt.alloc();
-    let table: [(&[u8], &str); 15] = [
+    let table: [(&[u8], &str); 19] = [
         (b"# \xff\n", "m.py:1: refused: NotUtf8\n"),
         (b"# \n\n\xc3(\n", "m.py:3: refused: NotUtf8\n"),
         // the encoding is tried first
@@ -151,6 +151,23 @@ fn refuses_contents(rt: HostRuntime) -> Result<(), Fail> {
         (b"'\\ud800'\n", "m.py:1: refused: EscapeForm\n"),
         (b"f(a=1, 2)\n", "m.py:1: refused: Line\n"),
         (b"pass\nreturn 1\n", "m.py:2: refused: Block\n"),
+        (
+            b"def f(x: int) -> int:\n    'post: x +'\n    return x\n",
+            "m.py:2: refused: BadExpression\n",
+        ),
+        (
+            b"def f(x: int) -> int:\n    'post[y]: 1'\n    return x\n",
+            "m.py:2: refused: UnknownName\n",
+        ),
+        (
+            b"def f(x: int) -> int:\n    'inv: 1'\n    return x\n",
+            "m.py:2: refused: Misplaced\n",
+        ),
+        // contract lines are read before the form
+        (
+            b"pass\nclass C:\n    'pre: 1'\n",
+            "m.py:3: refused: Misplaced\n",
+        ),
         (b"pass\n", "m.py:1: refused: NotBuilt\n"),
         (
             b"def f(x: int) -> int:\n    'post: y'\n    return 1\n",

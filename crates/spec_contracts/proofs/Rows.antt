@@ -6,12 +6,14 @@ use Rattle.spec_trees.specs.Expr.{StringPart}
 use Rattle.spec_trees.specs.Stmt.{evaluate}
 use Rattle.spec_trees.specs.Module.{Block, simple, no_statement, statement, def, class}
 use Rattle.spec_contracts.specs.declared.LineKind.TheVariants.{Pre, Post}
+use Rattle.spec_contracts.specs.declared.Refusal.{Refusal}
 use Rattle.spec_contracts.specs.declared.ContractFault.{ContractFault}
 use Rattle.spec_contracts.specs.declared.ContractFault.TheVariants.{BadExpression, UnknownName, Misplaced}
 use Rattle.spec_contracts.specs.Docstrings.{lines_in}
 use Rattle.spec_contracts.specs.Heads.{head_of}
 use Rattle.spec_contracts.specs.Entries.{Entry, spelled, unread, entries}
-use Rattle.spec_contracts.specs.Owners.{Owned, Refusal, of_function, of_class, owned, first_refusal, is_misplaced}
+use Rattle.spec_contracts.specs.Owners.{Owned, of_function, of_class, owned}
+use Rattle.spec_contracts.specs.ContractLines.{first_refusal, is_misplaced}
 
 -- ---- lines
 
@@ -19,7 +21,7 @@ use Rattle.spec_contracts.specs.Owners.{Owned, Refusal, of_function, of_class, o
 abbrev part : List ℕ → StringPart
 part s = record { value = []; source = s; raw = false; indent = 4; line = 2 }
 
-first_line_is_indented_as_its_text : lines_in (part []) (codes "  a\n  b") ≡ record { number = 2; indent = 4; text = codes "a" } ∷ record { number = 3; indent = 2; text = codes "b" } ∷ []
+first_line_is_indented_as_its_text : lines_in 2 4 (codes "  a\n  b") ≡ record { number = 2; indent = 4; text = codes "a" } ∷ record { number = 3; indent = 2; text = codes "b" } ∷ []
 first_line_is_indented_as_its_text = refl
 
 -- ---- heads
@@ -36,13 +38,13 @@ other_words_are_prose = refl
 -- ---- entries
 
 abbrev entry : ℕ → ℕ → List ℕ → Entry
-entry n h s = record { line = n; head = h; kind = Post; names = None; content = spelled s }
+entry n h s = record { line = n; promise = record { line = h; kind = Post; names = None }; content = spelled s }
 
 abbrev missing : ℕ → ℕ → Entry
-missing n h = record { line = n; head = h; kind = Post; names = None; content = unread }
+missing n h = record { line = n; promise = record { line = h; kind = Post; names = None }; content = unread }
 
 abbrev entries_in : List ℕ → List Entry
-entries_in s = entries false None (lines_in (part []) s)
+entries_in s = entries false None (lines_in 2 4 s)
 
 rest_of_a_line_is_one : entries_in (codes "Prose.\n    post: x\n    more") ≡ entry 3 3 (codes " x") ∷ []
 rest_of_a_line_is_one = refl

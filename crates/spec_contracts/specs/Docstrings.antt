@@ -34,10 +34,10 @@ abbrev pub indented : ℕ → List DocLine → List DocLine
 indented k [] = []
 indented k (l ∷ ls) = record l { indent = k } ∷ ls
 
--- the lines of letters that stand between the quotes of a literal
-abbrev pub lines_in : StringPart → List ℕ → List DocLine
-lines_in p s = indented p.indent (numbered p.line (slice_split (λ c. c == 10) s))
+-- the lines of letters, of which the first has the number n and is indented by k
+abbrev pub lines_in : ℕ → ℕ → List ℕ → List DocLine
+lines_in n k s = indented k (numbered n (slice_split (λ c. c == 10) s))
 
 -- The lines between the quotes. Escapes are not interpreted.
 abbrev pub lines_of : StringPart → List DocLine
-lines_of p = lines_in p (chars p.source)
+lines_of p = lines_in p.line p.indent (chars p.source)

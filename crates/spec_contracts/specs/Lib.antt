@@ -2,3 +2,4 @@ pub mod Docstrings
 pub mod Heads
 pub mod Entries
 pub mod Owners
+pub mod ContractLines

@@ -1,36 +1,14 @@
--- The contract lines of a module, or the first refusal among them.
-use Rattle.std.specs.Prelude.{◌≡◌, ℕ, suc, ◌+◌, Bool, true, false, not, ◌&&◌, ◌==◌, nat_lt, List, [], ◌∷◌, ◌++◌, map, Option, Some, None, Result, Ok, Err, if◌then◌else◌}
-use Rattle.std.specs.List.{list_all, list_any, flat_map}
-use Rattle.std.specs.Str.{bytes_eq}
-use Rattle.spec_trees.specs.Expr.{Expr, StringPart}
+-- The functions and classes of a module, which own the contract lines of their docstrings.
+use Rattle.std.specs.Prelude.{ℕ, suc, ◌+◌, List, [], ◌∷◌, ◌++◌, length, map, Option}
+use Rattle.spec_trees.specs.Expr.{StringPart}
 use Rattle.spec_trees.specs.Stmt.{Parameter}
 use Rattle.spec_trees.specs.Module.{Block, no_statement, statement, def, class}
-use Rattle.spec_syntax.specs.Phases.{Misfit}
-use Rattle.spec_syntax.specs.Texts.{parsed_expression}
-use Rattle.spec_contracts.specs.declared.LineKind.{LineKind}
-use Rattle.spec_contracts.specs.declared.LineKind.TheVariants.{Pre, Post, Raises, Invariant}
-use Rattle.spec_contracts.specs.declared.ContractFault.{ContractFault}
-use Rattle.spec_contracts.specs.declared.ContractFault.TheVariants.{BadExpression, UnknownName, Misplaced}
-use Rattle.spec_contracts.specs.declared.TheConstants.{EXCEPTION_CLASSES}
-use Rattle.spec_contracts.specs.Docstrings.{docstring_of, lines_of}
-use Rattle.spec_contracts.specs.Entries.{Content, spelled, classes, unread, Entry, entries}
+use Rattle.spec_contracts.specs.Docstrings.{docstring_of}
 
 -- The owner of contract lines: functions and classes have numbers from 0, each in the order of lines.
 pub data Owner : Type 0 where
   of_function : ℕ → Owner
   of_class : ℕ → Owner
-
--- a contract line: its expression, or none where it lists classes; the classes, or the names in its brackets
-pub record ContractLine : Type 0 where
-  pub owner : Owner
-  pub kind : LineKind
-  pub line : ℕ
-  pub expression : Option Expr
-  pub names : Option (List (List ℕ))
-
-pub record Refusal : Type 0 where
-  pub line : ℕ
-  pub fault : ContractFault
 
 -- a function or class with the names of its parameters, which a class does not have, and with its docstring
 pub record Owned : Type 0 where
@@ -38,121 +16,21 @@ pub record Owned : Type 0 where
   pub parameters : List (List ℕ)
   pub docstring : Option StringPart
 
--- ---- single entries
-
-abbrev pub is_among : List (List ℕ) → List ℕ → Bool
-is_among names x = list_any (bytes_eq x) names
-
-abbrev pub is_exception : List ℕ → Bool
-is_exception x = list_any (λ k. bytes_eq k.now x) EXCEPTION_CLASSES
-
-abbrev pub in_class : Owner → Bool
-in_class (of_function n) = false
-in_class (of_class n) = true
-
-abbrev pub is_invariant : LineKind → Bool
-is_invariant Invariant = true
-is_invariant Pre = false
-is_invariant Post = false
-is_invariant Raises = false
-
--- an invariant stands in a class, and every other contract line in a function
-abbrev pub is_misplaced : Owner → LineKind → Bool
-is_misplaced o kind = if in_class o then not (is_invariant kind) else is_invariant kind
-
-abbrev pub brackets_known : List (List ℕ) → Option (List (List ℕ)) → Bool
-brackets_known parameters None = true
-brackets_known parameters (Some xs) = list_all (is_among parameters) xs
-
-abbrev pub classes_known : Content → Bool
-classes_known (classes xs) = list_all is_exception xs
-classes_known (spelled s) = true
-classes_known unread = true
-
--- what an entry comes to: nothing where it cannot be read
-abbrev pub line_of : Owner → Entry → Option ContractLine
-line_of o e = by_content e.content
-  where
-    with_expression : Result Expr Misfit → Option ContractLine
-    with_expression (Ok x) = Some (record { owner = o; kind = e.kind; line = e.line; expression = Some x; names = e.names })
-    with_expression (Err f) = None
-
-    by_content : Content → Option ContractLine
-    by_content (spelled s) = with_expression (parsed_expression e.line s)
-    by_content (classes xs) = Some (record { owner = o; kind = e.kind; line = e.line; expression = None; names = Some xs })
-    by_content unread = None
-
--- ---- refusals
-
-abbrev pub bad : Entry → Option ContractLine → List Refusal
-bad e None = record { line = e.line; fault = BadExpression } ∷ []
-bad e (Some l) = []
-
-abbrev pub refused_if : Bool → ℕ → ContractFault → List Refusal
-refused_if b n f = if b then record { line = n; fault = f } ∷ [] else []
-
--- All refusals of an entry. What its contract line names and where that stands show at that line.
-abbrev pub refusals_of : Owned → Entry → List Refusal
-refusals_of o e = bad e (line_of o.owner e) ++ refused_if (not (brackets_known o.parameters e.names && classes_known e.content)) e.head UnknownName ++ refused_if (is_misplaced o.owner e.kind) e.head Misplaced
-
-abbrev pub rank : ContractFault → ℕ
-rank BadExpression = 1
-rank UnknownName = 2
-rank Misplaced = 3
-
--- whether a refusal comes before another one: by its line, and at one line by its fault
-abbrev pub is_sooner : Refusal → Refusal → Bool
-is_sooner r s = if nat_lt r.line s.line then true else (r.line == s.line && nat_lt (rank r.fault) (rank s.fault))
-
-abbrev pub sooner : Refusal → Option Refusal → Option Refusal
-sooner r None = Some r
-sooner r (Some s) = if is_sooner s r then Some s else Some r
-
-abbrev pub first_refusal : List Refusal → Option Refusal
-first_refusal [] = None
-first_refusal (r ∷ rs) = sooner r (first_refusal rs)
-
--- none of these comes before a refusal
-abbrev pub AreLater : Refusal → List Refusal → Type 0
-AreLater r [] = Unit {0}
-AreLater r (s ∷ ss) = (is_sooner s r ≡ false) × AreLater r ss
-
--- ---- modules
-
 abbrev pub function_owned : ℕ → List Parameter → Block → Owned
 function_owned k ps b = record { owner = of_function k; parameters = map (λ (p : Parameter). p.name) ps; docstring = docstring_of b }
 
--- how many functions a block has
-abbrev pub functions_in : Block → ℕ
-functions_in no_statement = 0
-functions_in (statement (def n x ps r b) c) = suc (functions_in c)
-functions_in (statement s c) = functions_in c
+abbrev pub class_owned : ℕ → Block → Owned
+class_owned m b = record { owner = of_class m; parameters = []; docstring = docstring_of b }
 
--- the functions and classes of a block in the order of lines, where so many functions and classes stand before it
+-- the functions of a class, where k functions stand before it
+abbrev pub methods : ℕ → Block → List Owned
+methods k no_statement = []
+methods k (statement (def n x ps r b) c) = function_owned k ps b ∷ methods (suc k) c
+methods k (statement s c) = methods k c
+
+-- The functions and classes of a block, where k functions and m classes stand before it. A class stands in no block.
 abbrev pub owned : ℕ → ℕ → Block → List Owned
 owned k m no_statement = []
 owned k m (statement (def n x ps r b) c) = function_owned k ps b ∷ owned (suc k) m c
-owned k m (statement (class n x b) c) = record { owner = of_class m; parameters = []; docstring = docstring_of b } ∷ owned k (suc m) b ++ owned (k + functions_in b) (suc m) c
+owned k m (statement (class n x b) c) = class_owned m b ∷ methods k b ++ owned (k + length (methods k b)) (suc m) c
 owned k m (statement s c) = owned k m c
-
-abbrev pub entries_of : Option StringPart → List Entry
-entries_of None = []
-entries_of (Some p) = entries p.raw None (lines_of p)
-
-abbrev pub all_refusals : List Owned → List Refusal
-all_refusals os = flat_map (λ o. flat_map (refusals_of o) (entries_of o.docstring)) os
-
-abbrev pub given_line : Option ContractLine → List ContractLine
-given_line None = []
-given_line (Some l) = l ∷ []
-
-abbrev pub all_lines : List Owned → List ContractLine
-all_lines os = flat_map (λ o. flat_map (λ e. given_line (line_of o.owner e)) (entries_of o.docstring)) os
-
-abbrev pub unless_refused : Option Refusal → List ContractLine → Result (List ContractLine) Refusal
-unless_refused None ls = Ok ls
-unless_refused (Some r) ls = Err r
-
--- the contract lines of a module in their order, or the first refusal
-unfoldable pub contracts_of : Block → Result (List ContractLine) Refusal
-contracts_of b = let os = owned 0 0 b in unless_refused (first_refusal (all_refusals os)) (all_lines os)

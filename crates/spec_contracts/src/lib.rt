@@ -2,7 +2,8 @@
 #![tactic(auto)]
 
 ghost use Rattle.std.specs.Prelude.{◌≡◌, List, Some};
-ghost use Rattle.spec_contracts.specs.Owners.{Refusal, first_refusal, AreLater};
+ghost use Rattle.spec_contracts.specs.declared.Refusal.{Refusal};
+ghost use Rattle.spec_contracts.specs.ContractLines.{first_refusal, AreLater};
 
 /// What a contract line promises.
 #[derive(Clone, Copy, Debug, PartialEq, Eq)]
@@ -26,6 +27,14 @@ pub enum ContractFault {
     UnknownName,
     /// `inv:` in a function, or another contract line in a class.
     Misplaced,
+}
+
+/// A contract line that is refused.
+#[derive(Clone, Copy, Debug, PartialEq, Eq)]
+pub struct Refusal {
+    /// From 1, in the text that holds the docstring.
+    pub line: u32,
+    pub fault: ContractFault,
 }
 
 /// The exception classes (Python 3.12 library reference, "Built-in Exceptions").

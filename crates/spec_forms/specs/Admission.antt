@@ -1,4 +1,4 @@
--- Which contents are admitted, and as what program. The phases are encoding, tokens, load, lines, nesting, blocks and the form that is run, and the first that refuses decides.
+-- Which contents are admitted, and as what program. The phases are encoding, tokens, load, lines, nesting, blocks, contract lines and the form that is run, and the first that refuses decides.
 use Rattle.std.specs.Prelude.{ℕ, suc, ◌==◌, List, [], take, Result, Ok, Err, codes, if◌then◌else◌}
 use Rattle.std.specs.List.{count_by}
 use Rattle.std.specs.Str.{is_utf8, chars}
@@ -13,6 +13,10 @@ use Rattle.spec_trees.specs.Module.{Block}
 use Rattle.spec_first_trees.specs.Program.{Function, Program}
 use Rattle.spec_syntax.specs.Lines.{word_lines}
 use Rattle.spec_syntax.specs.Phases.{Misfit, too_deep, no_line, misplaced, parsed}
+use Rattle.spec_contracts.specs.declared.ContractFault.{ContractFault}
+use Rattle.spec_contracts.specs.declared.ContractFault.TheVariants as contract
+use Rattle.spec_contracts.specs.declared.Refusal as contracts
+use Rattle.spec_contracts.specs.ContractLines.{ContractLine, contracts_of}
 use Rattle.spec_forms.specs.Forms.{functions_of}
 
 -- why a content is not admitted: the name of the refusal, and the line at which it shows
@@ -37,12 +41,22 @@ fault_name fault.BigInteger = codes "BigInteger"
 fault_name fault.NumberForm = codes "NumberForm"
 fault_name fault.EscapeForm = codes "EscapeForm"
 
+abbrev pub contract_fault_name : ContractFault → List ℕ
+contract_fault_name contract.BadExpression = codes "BadExpression"
+contract_fault_name contract.UnknownName = codes "UnknownName"
+contract_fault_name contract.Misplaced = codes "Misplaced"
+
 abbrev pub formed : Result (List Function) ℕ → Result Program Refusal
 formed (Ok fs) = Ok (record { functions = fs })
 formed (Err n) = refused n (codes "NotBuilt")
 
+-- the program of a block whose contract lines are read
+abbrev pub as_contracts : Block → Result (List ContractLine) contracts.Refusal → Result Program Refusal
+as_contracts b (Ok ls) = formed (functions_of [] b)
+as_contracts b (Err r) = refused r.line (contract_fault_name r.fault)
+
 abbrev pub as_block : Result Block Misfit → Result Program Refusal
-as_block (Ok b) = formed (functions_of [] b)
+as_block (Ok b) = as_contracts b (contracts_of b)
 as_block (Err (no_line n)) = refused n (codes "Line")
 as_block (Err (too_deep n)) = refused n (codes "TooDeep")
 as_block (Err (misplaced n)) = refused n (codes "Block")

@@ -1,5 +1,5 @@
 use Rattle.std.proofs.lemmas.Result.{err_from_is_err_and}
-use Rattle.crosshair.proofs.Admitting.{tokens_refused, blocks_refused, functions_refused, functions_admitted}
+use Rattle.crosshair.proofs.Admitting.{tokens_refused, blocks_refused, contracts_refused, functions_refused, functions_admitted}
 use Rattle.crosshair.proofs.admission.admit_text.Goals as goal
 
 pub returns-in_err-tokens : goal.returns-in_err-tokens
@@ -12,10 +12,15 @@ returns-in_err-module c =
     let p = err_from_is_err_and c.from_residual-in_err-module.result c.from_residual-in_err-module.ensures.1 in
     rw (p.1, p.2) (blocks_refused c.args.text.now _ _ c.in_ok-tokens.ensures.1 c.in_err-module.ensures.parsed)
 
+pub returns-in_err-conditions : goal.returns-in_err-conditions
+returns-in_err-conditions c =
+    let p = err_from_is_err_and c.from_residual-in_err-conditions.result c.from_residual-in_err-conditions.ensures.1 in
+    rw (p.1, p.2) (contracts_refused c.args.text.now _ _ c.conditions.new.«module» _ c.in_ok-tokens.ensures.1 c.in_ok-module.ensures.parsed c.in_err-conditions.ensures.contracts)
+
 pub returns-in_err-functions : goal.returns-in_err-functions
 returns-in_err-functions c =
     let p = err_from_is_err_and c.from_residual-in_err-functions.result c.from_residual-in_err-functions.ensures.1 in
-    rw (p.1, p.2) (functions_refused c.args.text.now _ _ _ c.in_ok-tokens.ensures.1 c.in_ok-module.ensures.parsed c.in_err-functions.ensures)
+    rw (p.1, p.2) (functions_refused c.args.text.now _ _ _ _ c.in_ok-tokens.ensures.1 c.in_ok-module.ensures.parsed c.in_ok-conditions.ensures.contracts c.in_ok-conditions.ensures.tree _ c.in_err-functions.ensures)
 
 pub returns : goal.returns
-returns c = functions_admitted c.args.text.now _ _ _ c.in_ok-tokens.ensures.1 c.in_ok-module.ensures.parsed c.in_ok-functions.ensures
+returns c = functions_admitted c.args.text.now _ _ _ _ c.in_ok-tokens.ensures.1 c.in_ok-module.ensures.parsed c.in_ok-conditions.ensures.contracts c.in_ok-conditions.ensures.tree _ c.in_ok-functions.ensures
