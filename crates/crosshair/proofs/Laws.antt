@@ -1,5 +1,5 @@
 -- Laws of what a run leaves.
-use Rattle.std.proofs.Common.{◌≡◌, ℕ, ◌+◌, ◌≤◌, max, false, List, [], ◌∷◌, ◌++◌, drop, refl, sym, ap, ◌∙◌, subst, arith, drop-cons}
+use Rattle.std.proofs.Common.{◌≡◌, ℕ, ◌+◌, ◌≤◌, max, Bool, false, List, [], ◌∷◌, ◌++◌, drop, refl, sym, ap, ◌∙◌, subst, arith, drop-cons}
 use Rattle.std.proofs.lemmas.List.{append-nil}
 use Rattle.std.proofs.lemmas.Grind.{common_steps}
 use Rattle.std.proofs.lemmas.Option.{gets}
@@ -100,50 +100,50 @@ going_fault t a o o' o'' e e' e'' worst n n' n'' going small later fault =
     }
 
 -- a read that does not fail adds no line of a failed read
-pub entry_fault : (bounds : Bounds) (name : List ℕ) (answer : Result (List ℕ) ReadError) → is_failed answer ≡ false → (entry_of bounds name answer).fault ≡ []
-entry_fault bounds name (Ok content) h = refl
-entry_fault bounds name (Err read_error.TooLong) h = refl
-entry_fault bounds name (Err read_error.Failed) h = cc
-entry_fault bounds name (Err read_error.NoMemory) h = refl
+pub entry_fault : (all : Bool) (bounds : Bounds) (name : List ℕ) (answer : Result (List ℕ) ReadError) → is_failed answer ≡ false → (entry_of all bounds name answer).fault ≡ []
+entry_fault all bounds name (Ok content) h = refl
+entry_fault all bounds name (Err read_error.TooLong) h = refl
+entry_fault all bounds name (Err read_error.Failed) h = cc
+entry_fault all bounds name (Err read_error.NoMemory) h = refl
 
 -- the names from a place on begin with the one at that place
 pub drop_item : (names : List (List ℕ)) (i : ℕ) (name : List ℕ) → slice_get names i ≡ Some name → drop i names ≡ name ∷ drop (i + 1) names
 drop_item names i name h = grind (arith, common_steps, gets, drop-cons)
 
 -- one more target is read
-pub step_on : (t : Total) (bounds : Bounds) (files : List (List ℕ × List ℕ)) (left left' : Option ℕ) (names : List (List ℕ)) (i : ℕ) (name : List ℕ) (o o' o'' e e' e'' : Option (List ℕ)) (worst status : ℕ)
+pub step_on : (t : Total) (all : Bool) (bounds : Bounds) (files : List (List ℕ × List ℕ)) (left left' : Option ℕ) (names : List (List ℕ)) (i : ℕ) (name : List ℕ) (o o' o'' e e' e'' : Option (List ℕ)) (worst status : ℕ)
     → slice_get names i ≡ Some name
-    → Going t (targets_total bounds (drop i names) files left) o o' e e' worst
-    → IsDone (entry_of bounds name (read_of files left name READ_LIMIT)) o' o'' e' e'' status
+    → Going t (targets_total all bounds (drop i names) files left) o o' e e' worst
+    → IsDone (entry_of all bounds name (read_of files left name READ_LIMIT)) o' o'' e' e'' status
     → is_failed (read_of files left name READ_LIMIT) ≡ false
     → left' ≡ next_left left
-    → Going t (targets_total bounds (drop (i + 1) names) files left') o o'' e e'' (max worst status)
-step_on t bounds files left left' names i name o o' o'' e e' e'' worst status item going done good next =
+    → Going t (targets_total all bounds (drop (i + 1) names) files left') o o'' e e'' (max worst status)
+step_on t all bounds files left left' names i name o o' o'' e e' e'' worst status item going done good next =
     let answer : Result (List ℕ) ReadError = read_of files left name READ_LIMIT in
-    let rest : Total = targets_total bounds (drop (i + 1) names) files (next_left left) in
-    let now : targets_total bounds (drop i names) files left ≡ join (entry_of bounds name answer) rest =
-    ap (λ ns. targets_total bounds ns files left) (drop_item names i name item) ∙ ap (λ b. join (entry_of bounds name answer) (if b then nothing else rest)) good in
+    let rest : Total = targets_total all bounds (drop (i + 1) names) files (next_left left) in
+    let now : targets_total all bounds (drop i names) files left ≡ join (entry_of all bounds name answer) rest =
+    ap (λ ns. targets_total all bounds ns files left) (drop_item names i name item) ∙ ap (λ b. join (entry_of all bounds name answer) (if b then nothing else rest)) good in
     let on : Going t rest o o'' e e'' (max worst status) =
-    going_on t (entry_of bounds name answer) rest o o' o'' e e' e'' worst status (subst (λ r. Going t r o o' e e' worst) now going) done (entry_fault bounds name answer good) in
-    subst (λ l. Going t (targets_total bounds (drop (i + 1) names) files l) o o'' e e'' (max worst status)) (sym next) on
+    going_on t (entry_of all bounds name answer) rest o o' o'' e e' e'' worst status (subst (λ r. Going t r o o' e e' worst) now going) done (entry_fault all bounds name answer good) in
+    subst (λ l. Going t (targets_total all bounds (drop (i + 1) names) files l) o o'' e e'' (max worst status)) (sym next) on
 
 -- a target ends the run
-pub step_stop : (t : Total) (bounds : Bounds) (files : List (List ℕ × List ℕ)) (left : Option ℕ) (names : List (List ℕ)) (i : ℕ) (name : List ℕ) (o o' o'' e e' e'' : Option (List ℕ)) (worst n n' n'' : ℕ) (stop : Stop)
+pub step_stop : (t : Total) (all : Bool) (bounds : Bounds) (files : List (List ℕ × List ℕ)) (left : Option ℕ) (names : List (List ℕ)) (i : ℕ) (name : List ℕ) (o o' o'' e e' e'' : Option (List ℕ)) (worst n n' n'' : ℕ) (stop : Stop)
     → slice_get names i ≡ Some name
-    → Going t (targets_total bounds (drop i names) files left) o o' e e' worst
+    → Going t (targets_total all bounds (drop i names) files left) o o' e e' worst
     → worst ≤ 2
     → n ≤ n'
-    → Ends (entry_of bounds name (read_of files left name READ_LIMIT)) o' o'' e' e'' n' n'' (Err stop)
+    → Ends (entry_of all bounds name (read_of files left name READ_LIMIT)) o' o'' e' e'' n' n'' (Err stop)
     → TellsRead (read_of files left name READ_LIMIT) (Err stop)
     → Ends t o o'' e e'' n n'' (Err stop)
-step_stop t bounds files left names i name o o' o'' e e' e'' worst n n' n'' stop item going small later ends told =
+step_stop t all bounds files left names i name o o' o'' e e' e'' worst n n' n'' stop item going small later ends told =
     let answer : Result (List ℕ) ReadError = read_of files left name READ_LIMIT in
-    let rest : Total = targets_total bounds (drop (i + 1) names) files (next_left left) in
-    let here : Going t (join (entry_of bounds name answer) (after answer rest)) o o' e e' worst =
-    subst (λ ns. Going t (targets_total bounds ns files left) o o' e e' worst) (drop_item names i name item) going in
-    elim stop as (λ s. Ends (entry_of bounds name answer) o' o'' e' e'' n' n'' (Err s) → TellsRead answer (Err s) → Ends t o o'' e e'' n n'' (Err s)) [
-      | NoMemory ↦ λ ends told. going_cut t (entry_of bounds name answer) (after answer rest) o o' o'' e e' e'' worst here ends
-      | WriteFault ↦ λ ends told. going_cut t (entry_of bounds name answer) (after answer rest) o o' o'' e e' e'' worst here ends
-      | ReadFault ↦ λ ends told. going_fault t (entry_of bounds name answer) o o' o'' e e' e'' worst n n' n''
-          (subst (λ b. Going t (join (entry_of bounds name answer) (if b then nothing else rest)) o o' e e' worst) told here) small later ends
+    let rest : Total = targets_total all bounds (drop (i + 1) names) files (next_left left) in
+    let here : Going t (join (entry_of all bounds name answer) (after answer rest)) o o' e e' worst =
+    subst (λ ns. Going t (targets_total all bounds ns files left) o o' e e' worst) (drop_item names i name item) going in
+    elim stop as (λ s. Ends (entry_of all bounds name answer) o' o'' e' e'' n' n'' (Err s) → TellsRead answer (Err s) → Ends t o o'' e e'' n n'' (Err s)) [
+      | NoMemory ↦ λ ends told. going_cut t (entry_of all bounds name answer) (after answer rest) o o' o'' e e' e'' worst here ends
+      | WriteFault ↦ λ ends told. going_cut t (entry_of all bounds name answer) (after answer rest) o o' o'' e e' e'' worst here ends
+      | ReadFault ↦ λ ends told. going_fault t (entry_of all bounds name answer) o o' o'' e e' e'' worst n n' n''
+          (subst (λ b. Going t (join (entry_of all bounds name answer) (if b then nothing else rest)) o o' e e' worst) told here) small later ends
     ] ends told

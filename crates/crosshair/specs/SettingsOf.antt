@@ -5,4 +5,4 @@ use Rattle.crosshair.specs.declared.settings.Settings.{Settings}
 
 -- what the settings ask for
 abbrev pub settings_in : Settings → spec.Settings
-settings_in s = record { bounds = bounds_of s.bounds; targets = s.targets }
+settings_in s = record { bounds = bounds_of s.bounds; report_all = s.report_all; targets = s.targets }

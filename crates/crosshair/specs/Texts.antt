@@ -9,8 +9,8 @@ use Rattle.first_tree.specs.Arena.{ModuleState}
 use Rattle.first_tree.specs.Functions.{function_in}
 
 -- what is written for a condition
-abbrev pub condition_text : List ℕ → Bounds → Function → Condition → List ℕ
-condition_text name bounds f k = verdict_line name (line_of k) f (verdict f k bounds)
+abbrev pub condition_text : Bool → List ℕ → Bounds → Function → Condition → List ℕ
+condition_text all name bounds f k = verdict_line all name (line_of k) f (verdict f k bounds)
 
 -- whether the verdict of a condition is an error
 abbrev pub condition_fails : Bounds → Function → Condition → Bool

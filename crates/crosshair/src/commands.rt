@@ -1,7 +1,7 @@
-ghost use Rattle.std.specs.Prelude.{◌≡◌, ◌&&◌, codes, IfOk};
-ghost use Rattle.std.specs.Option.{option_map};
+ghost use Rattle.std.specs.Prelude.{◌≡◌, false, [], ◌∷◌, slice_get, codes, IfOk};
+ghost use Rattle.std.specs.Option.{option_map, option_map_or};
 ghost use Rattle.std.specs.Str.{bytes_eq};
-ghost use Rattle.spec_verdicts.specs.Settings.{begins_with_dash, is_target, settings};
+ghost use Rattle.spec_verdicts.specs.Settings.{begins_with_dash, check_of, checked, is_report_all, is_target, settings};
 ghost use Rattle.crosshair.specs.SettingsOf.{settings_in};
 
 use crate::settings::Settings;
@@ -14,27 +14,60 @@ use xh_outside::{Name, NoMemory, Words};
 pub fn settings(alloc: Global, words: &Words) -> Result<Option<Settings>, NoMemory>
     ensures { IfOk result (λ o. option_map settings_in o ≡ settings words.now) }
 {
-    if words.len() != 2 {
+    if !begins_with_check(words) {
         return Ok(None);
     }
-    let command = words.get(0).unwrap();
-    let target = words.get(1).unwrap();
-    if !is_check(command, target) {
+    match words.len() {
+        2 => check_of(alloc, false, words.get(1).unwrap()),
+        3 => check_of_two(alloc, words.get(1).unwrap(), words.get(2).unwrap()),
+        _ => Ok(None),
+    }
+}
+
+/// Whether the first word is the command.
+fn begins_with_check(words: &Words) -> bool
+    ensures { result ≡ option_map_or (λ word. bytes_eq word (codes "check")) (slice_get words.now 0) false }
+{
+    match words.get(0) {
+        Some(word) => word == "check",
+        None => false,
+    }
+}
+
+/// The check of one file, or None where the word names none.
+fn check_of(alloc: Global, report_all: bool, target: &str) -> Result<Option<Settings>, NoMemory>
+    ensures { IfOk result (λ o. option_map settings_in o ≡ check_of report_all target.now) }
+{
+    if !is_target(target) {
         return Ok(None);
     }
     let mut targets = Words::new(alloc);
     targets.push(Name::from_str(alloc, target)?)?;
     Ok(Some(Settings {
         bounds: Bounds::standard(),
+        report_all,
         targets,
     }))
 }
 
-/// Whether the words are the command and a file.
-fn is_check(command: &str, target: &str) -> bool
-    ensures { result ≡ (bytes_eq command.now (codes "check") && is_target target.now) }
+/// The check that two words ask for, which are a file and the option in either order.
+fn check_of_two(alloc: Global, first: &str, second: &str) -> Result<Option<Settings>, NoMemory>
+    ensures { IfOk result (λ o. option_map settings_in o ≡ checked (first.now ∷ second.now ∷ [])) }
 {
-    command == "check" && is_target(target)
+    if is_report_all(first) {
+        check_of(alloc, true, second)
+    } else if is_report_all(second) {
+        check_of(alloc, true, first)
+    } else {
+        Ok(None)
+    }
+}
+
+/// Whether a word is the option that asks for all results.
+fn is_report_all(word: &str) -> bool
+    ensures { result ≡ is_report_all word.now }
+{
+    word == "--report_all"
 }
 
 /// Whether a word names a file.

@@ -1,14 +1,14 @@
 ghost use Rattle.std.specs.Prelude.{◌≡◌, ◌++◌, List, IfOk, OnOk};
 ghost use Rattle.spec_calls.specs.Calls.{Number};
 ghost use Rattle.spec_calls.specs.Printing.{named, arguments_text, printed, shown};
-ghost use Rattle.spec_verdicts.specs.Lines.{class_name, error_line, fault_text, refusal_line, which_returns};
+ghost use Rattle.spec_verdicts.specs.Lines.{class_name, error_line, fault_text, info_line, limit_name, limit_text, refusal_line, verdict_line, which_returns};
 ghost use Rattle.first_tree.specs.declared.nodes.ExprNode.{ExprNode};
 ghost use Rattle.first_tree.specs.Functions.{function_in, parameters_in};
-ghost use Rattle.crosshair.specs.Meaning.{call_in, fault_in};
+ghost use Rattle.crosshair.specs.Meaning.{call_in, fault_in, verdict_in};
 
 use crate::calls::Call;
-use crate::verdicts::Fault;
-use first_tree::{ExcClass, FnNode, Parameters};
+use crate::verdicts::{Fault, Verdict};
+use first_tree::{ExcClass, FnNode, LimitKind, Parameters};
 use spec_running::Value;
 use std::alloc::Global;
 use xh_outside::{Bytes, NoMemory};
@@ -22,8 +22,64 @@ pub fn refusal_line(alloc: Global, name: &str, line: u32, kind: &str) -> Result<
     Ok(text)
 }
 
+/// What is written for a verdict: a line, or nothing where it is no error and the errors alone are
+/// asked for. The only error is that there is no memory for it.
+pub fn verdict_line(
+    alloc: Global,
+    report_all: bool,
+    name: &str,
+    line: u32,
+    function: &FnNode,
+    verdict: Verdict,
+) -> Result<Bytes, NoMemory>
+    ensures { IfOk result (λ text. (nodes : List ExprNode) → text ≡ verdict_line report_all name.now line (function_in nodes function.now) (verdict_in verdict)) }
+{
+    let is_written = report_all | verdict.is_error();
+    if !is_written {
+        return Ok(Bytes::new(alloc));
+    }
+    match verdict {
+        Verdict::Error { call, fault } => error_line(alloc, name, line, function, call, fault),
+        Verdict::NotConfirmed { call, kind } => {
+            limit_line(alloc, name, line, function, call, kind)
+        }
+        Verdict::Unmet => info_line(alloc, name, line, "Unable to meet precondition."),
+        Verdict::Confirmed => info_line(alloc, name, line, "Confirmed over all paths."),
+    }
+}
+
+/// The line `NAME:LINE: info: TEXT`. The only error is that there is no memory for it.
+fn info_line(alloc: Global, name: &str, line: u32, info: &str) -> Result<Bytes, NoMemory>
+    ensures { IfOk result (λ text. text ≡ info_line name.now line info.now) }
+{
+    let mut text = Bytes::new(alloc);
+    text.extend(format!(in alloc; "{name}:{line}: info: {info}\n")?.as_bytes())?;
+    Ok(text)
+}
+
+/// The line of a result that is not confirmed, since this call meets a limit. The only error is that
+/// there is no memory for it.
+fn limit_line(
+    alloc: Global,
+    name: &str,
+    line: u32,
+    function: &FnNode,
+    call: Call,
+    kind: LimitKind,
+) -> Result<Bytes, NoMemory>
+    ensures { IfOk result (λ text. (nodes : List ExprNode) → text ≡ info_line name.now line (limit_text (function_in nodes function.now) (call_in call) kind)) }
+{
+    let mut text = Bytes::new(alloc);
+    text.extend(format!(in alloc; "{name}:{line}: info: Not confirmed. (")?.as_bytes())?;
+    text.extend(limit_name(kind).as_bytes())?;
+    text.extend(b" limit when calling ")?;
+    add_call(alloc, &mut text, function, call)?;
+    text.extend(b")\n")?;
+    Ok(text)
+}
+
 /// The line `NAME:LINE: error: TEXT`, where this call breaks a condition of the function. The only error is that there is no memory for it.
-pub fn error_line(
+fn error_line(
     alloc: Global,
     name: &str,
     line: u32,
@@ -127,6 +183,18 @@ fn add_returned(alloc: Global, text: &mut Bytes, value: Value) -> Result<(), NoM
             text.extend(format!(in alloc; " (which returns {number})")?.as_bytes())?;
             Ok(())
         }
+    }
+}
+
+/// The name of a limit.
+fn limit_name(kind: LimitKind) -> &'static str
+    ensures { result.now ≡ limit_name kind }
+{
+    match kind {
+        LimitKind::Steps => "steps",
+        LimitKind::Depth => "depth",
+        LimitKind::Int => "int",
+        LimitKind::Profile => "profile",
     }
 }
 

@@ -7,19 +7,20 @@ ghost use Rattle.xh_outside.specs.Writing.{AppendsPart};
 ghost use Rattle.first_tree.specs.declared.nodes.ExprNode.{ExprNode};
 ghost use Rattle.first_tree.specs.Arena.{IsFunctionBelow};
 ghost use Rattle.first_tree.specs.BoundsOf.{bounds_of};
-ghost use Rattle.spec_verdicts.specs.Lines.{fault_line, refusal_line, verdict_line};
-ghost use Rattle.spec_verdicts.specs.Report.{entry_of, function_text, has_error, is_error, line_of, program_report, refused, report_of, reported};
+ghost use Rattle.spec_verdicts.specs.Lines.{fault_line, refusal_line};
+ghost use Rattle.spec_verdicts.specs.Report.{entry_of, function_text, has_error, line_of, program_report, refused, report_of, reported};
 ghost use Rattle.spec_verdicts.specs.declared.TheConstants.{READ_LIMIT};
 ghost use Rattle.crosshair.specs.Ends.{Ends, HasStopCause, TellsRead};
 ghost use Rattle.first_tree.specs.Functions.{function_in};
-ghost use Rattle.crosshair.specs.Meaning.{condition_in, verdict_in};
+ghost use Rattle.crosshair.specs.Meaning.{condition_in};
 ghost use Rattle.crosshair.specs.Texts.{condition_fails, condition_text, program_in};
 
 use crate::admission::{StageError, admit};
-use crate::lines::{error_line, refusal_line};
+use crate::lines::{refusal_line, verdict_line};
+use crate::settings::Settings;
 use crate::stop::Stop;
 use crate::verdicts::{Condition, Verdict, verdict_of};
-use first_tree::{Bounds, FnNode, Module};
+use first_tree::{FnNode, Module};
 use spec_verdicts::READ_LIMIT;
 use std::alloc::Global;
 use xh_outside::{Bytes, Files, NoMemory, ReadError, Sink, write_all};
@@ -34,31 +35,6 @@ fn line_of(function: &FnNode, condition: Condition) -> u32
     }
 }
 
-/// Appends what is written for a verdict, which is a line where it is an error, and answers whether
-/// it is.
-fn add_verdict(
-    alloc: Global,
-    name: &str,
-    line: u32,
-    function: &FnNode,
-    verdict: Verdict,
-    text: &mut Bytes,
-) -> Result<bool, NoMemory>
-    ensures text { OnOk result ((nodes : List ExprNode) → text.new ≡ text.old ++ verdict_line name.now line (function_in nodes function.now) (verdict_in verdict)) }
-    ensures fails { IfOk result (λ fails. fails ≡ is_error (verdict_in verdict)) }
-{
-    match verdict {
-        Verdict::Error { call, fault } => {
-            let piece = error_line(alloc, name, line, function, call, fault)?;
-            text.extend(piece.as_slice())?;
-            Ok(true)
-        }
-        Verdict::NotConfirmed { .. } => Ok(false),
-        Verdict::Unmet => Ok(false),
-        Verdict::Confirmed => Ok(false),
-    }
-}
-
 /// Appends what is written for a condition, and answers whether its verdict is an error.
 fn add_condition(
     alloc: Global,
@@ -66,22 +42,18 @@ fn add_condition(
     trees: &Module,
     function: &FnNode,
     condition: Condition,
-    bounds: &Bounds,
+    settings: &Settings,
     text: &mut Bytes,
 ) -> Result<bool, NoMemory>
     requires { IsFunctionBelow (length trees.now.nodes) function.now }
-    ensures text { OnOk result (text.new ≡ text.old ++ condition_text name.now (bounds_of bounds.now) (function_in trees.now.nodes function.now) (condition_in trees.now.nodes function.now condition)) }
-    ensures fails { IfOk result (λ fails. fails ≡ condition_fails (bounds_of bounds.now) (function_in trees.now.nodes function.now) (condition_in trees.now.nodes function.now condition)) }
+    ensures text { OnOk result (text.new ≡ text.old ++ condition_text settings.now.report_all name.now (bounds_of settings.now.bounds) (function_in trees.now.nodes function.now) (condition_in trees.now.nodes function.now condition)) }
+    ensures fails { IfOk result (λ fails. fails ≡ condition_fails (bounds_of settings.now.bounds) (function_in trees.now.nodes function.now) (condition_in trees.now.nodes function.now condition)) }
 {
-    let verdict = verdict_of(alloc, trees, function, condition, bounds)?;
-    add_verdict(
-        alloc,
-        name,
-        line_of(function, condition),
-        function,
-        verdict,
-        text,
-    )
+    let verdict = verdict_of(alloc, trees, function, condition, &settings.bounds)?;
+    let line = line_of(function, condition);
+    let piece = verdict_line(alloc, settings.report_all, name, line, function, verdict)?;
+    text.extend(piece.as_slice())?;
+    Ok(verdict.is_error())
 }
 
 /// Appends the lines of a function's conditions, and answers whether one is an error.
@@ -91,12 +63,12 @@ fn add_function(
     name: &str,
     trees: &Module,
     function: &FnNode,
-    bounds: &Bounds,
+    settings: &Settings,
     text: &mut Bytes,
 ) -> Result<bool, NoMemory>
     requires { IsFunctionBelow (length trees.now.nodes) function.now }
-    ensures text { OnOk result (text.new ≡ text.old ++ function_text name.now (bounds_of bounds.now) (function_in trees.now.nodes function.now)) }
-    ensures fails { IfOk result (λ fails. fails ≡ has_error (bounds_of bounds.now) (function_in trees.now.nodes function.now)) }
+    ensures text { OnOk result (text.new ≡ text.old ++ function_text settings.now.report_all name.now (bounds_of settings.now.bounds) (function_in trees.now.nodes function.now)) }
+    ensures fails { IfOk result (λ fails. fails ≡ has_error (bounds_of settings.now.bounds) (function_in trees.now.nodes function.now)) }
 {
     let raises = add_condition(
         alloc,
@@ -104,10 +76,18 @@ fn add_function(
         trees,
         function,
         Condition::Raises,
-        bounds,
+        settings,
         text,
     )?;
-    let breaks = add_condition(alloc, name, trees, function, Condition::Post, bounds, text)?;
+    let breaks = add_condition(
+        alloc,
+        name,
+        trees,
+        function,
+        Condition::Post,
+        settings,
+        text,
+    )?;
     Ok(raises | breaks)
 }
 
@@ -116,15 +96,15 @@ pub fn add_program(
     alloc: Global,
     name: &str,
     trees: &Module,
-    bounds: &Bounds,
+    settings: &Settings,
     text: &mut Bytes,
 ) -> Result<bool, NoMemory>
-    ensures text { OnOk result (text.new ≡ text.old ++ flat_map (function_text name.now (bounds_of bounds.now)) (program_in trees.now).functions) }
-    ensures fails { IfOk result (λ fails. fails ≡ list_any (has_error (bounds_of bounds.now)) (program_in trees.now).functions) }
+    ensures text { OnOk result (text.new ≡ text.old ++ flat_map (function_text settings.now.report_all name.now (bounds_of settings.now.bounds)) (program_in trees.now).functions) }
+    ensures fails { IfOk result (λ fails. fails ≡ list_any (has_error (bounds_of settings.now.bounds)) (program_in trees.now).functions) }
 {
     let mut fails = false;
     for i in 0..trees.functions() {
-        fails |= add_function(alloc, name, trees, trees.function(i), bounds, text)?;
+        fails |= add_function(alloc, name, trees, trees.function(i), settings, text)?;
     }
     Ok(fails)
 }
@@ -152,16 +132,16 @@ fn report_program<O: Sink, E: Sink>(
     alloc: Global,
     name: &str,
     trees: &Module,
-    bounds: &Bounds,
+    settings: &Settings,
     out: &mut O,
     err: &mut E,
 ) -> Result<u8, Stop>
-    ensures ends { Ends (reported (program_report name.now (bounds_of bounds.now) (program_in trees.now))) (O.bytes out.old) (O.bytes out.new) (E.bytes err.old) (E.bytes err.new) (E.faults err.old) (E.faults err.new) result }
+    ensures ends { Ends (reported (program_report settings.now.report_all name.now (bounds_of settings.now.bounds) (program_in trees.now))) (O.bytes out.old) (O.bytes out.new) (E.bytes err.old) (E.bytes err.new) (E.faults err.old) (E.faults err.new) result }
     ensures status { IfOk result (λ status. status ≤ 2) }
     ensures cause { HasStopCause 0 0 (O.faults out.old) (O.faults out.new) (E.faults err.old) (E.faults err.new) result }
 {
     let mut text = Bytes::new(alloc);
-    let fails = add_program(alloc, name, trees, bounds, &mut text)?;
+    let fails = add_program(alloc, name, trees, settings, &mut text)?;
     write_all(out, text.as_slice())?;
     Ok(u8::from(fails))
 }
@@ -172,17 +152,17 @@ fn report<O: Sink, E: Sink>(
     alloc: Global,
     name: &str,
     content: &[u8],
-    bounds: &Bounds,
+    settings: &Settings,
     out: &mut O,
     err: &mut E,
 ) -> Result<u8, Stop>
     requires { length content.now ≤ READ_LIMIT }
-    ensures ends { Ends (reported (report_of (bounds_of bounds.now) name.now content.now)) (O.bytes out.old) (O.bytes out.new) (E.bytes err.old) (E.bytes err.new) (E.faults err.old) (E.faults err.new) result }
+    ensures ends { Ends (reported (report_of settings.now.report_all (bounds_of settings.now.bounds) name.now content.now)) (O.bytes out.old) (O.bytes out.new) (E.bytes err.old) (E.bytes err.new) (E.faults err.old) (E.faults err.new) result }
     ensures status { IfOk result (λ status. status ≤ 2) }
     ensures cause { HasStopCause 0 0 (O.faults out.old) (O.faults out.new) (E.faults err.old) (E.faults err.new) result }
 {
     match admit(alloc, content) {
-        Ok(trees) => report_program(alloc, name, &trees, bounds, out, err),
+        Ok(trees) => report_program(alloc, name, &trees, settings, out, err),
         Err(StageError::Refused(line, kind)) => refuse(alloc, name, line, kind.name(), out, err),
         Err(StageError::NoMemory) => Err(Stop::NoMemory),
     }
@@ -204,12 +184,12 @@ fn report_fault<E: Sink>(name: &str, err: &mut E)
 pub fn check_target<F: Files, O: Sink, E: Sink>(
     alloc: Global,
     name: &str,
-    bounds: &Bounds,
+    settings: &Settings,
     files: &mut F,
     out: &mut O,
     err: &mut E,
 ) -> Result<u8, Stop>
-    ensures ends { IfSome (F.contents files.old) (λ contents. Ends (entry_of (bounds_of bounds.now) name.now (read_of contents (F.left files.old) name.now READ_LIMIT)) (O.bytes out.old) (O.bytes out.new) (E.bytes err.old) (E.bytes err.new) (E.faults err.old) (E.faults err.new) result) }
+    ensures ends { IfSome (F.contents files.old) (λ contents. Ends (entry_of settings.now.report_all (bounds_of settings.now.bounds) name.now (read_of contents (F.left files.old) name.now READ_LIMIT)) (O.bytes out.old) (O.bytes out.new) (E.bytes err.old) (E.bytes err.new) (E.faults err.old) (E.faults err.new) result) }
     ensures read { IfSome (F.contents files.old) (λ contents. TellsRead (read_of contents (F.left files.old) name.now READ_LIMIT) result) }
     ensures contents { F.contents files.new ≡ F.contents files.old }
     ensures left { OnOk result (F.left files.new ≡ next_left (F.left files.old)) }
@@ -217,7 +197,7 @@ pub fn check_target<F: Files, O: Sink, E: Sink>(
     ensures cause { HasStopCause (F.faults files.old) (F.faults files.new) (O.faults out.old) (O.faults out.new) (E.faults err.old) (E.faults err.new) result }
 {
     match files.read(alloc, name, READ_LIMIT) {
-        Ok(content) => report(alloc, name, content.as_slice(), bounds, out, err),
+        Ok(content) => report(alloc, name, content.as_slice(), settings, out, err),
         Err(ReadError::TooLong) => refuse(alloc, name, 1, "TooLong", out, err),
         Err(ReadError::NoMemory) => Err(Stop::NoMemory),
         Err(ReadError::Failed) => {

@@ -9,28 +9,27 @@ ghost use Rattle.crosshair.specs.Ends.{Ends, HasStopCause, IsCutShort, IsDone, I
 
 use crate::commands::settings;
 use crate::report::check_target;
+use crate::settings::Settings;
 use crate::stop::Stop;
-use first_tree::Bounds;
 use std::alloc::Global;
 use xh_outside::{Files, Sink, Words, write_all};
 
 /// Checks the targets in order, and answers the greatest status of one.
 fn check_targets<F: Files, O: Sink, E: Sink>(
     alloc: Global,
-    bounds: &Bounds,
-    targets: &Words,
+    settings: &Settings,
     files: &mut F,
     out: &mut O,
     err: &mut E,
 ) -> Result<u8, Stop>
-    ensures ends { IfSome (F.contents files.old) (λ contents. Ends (targets_total (bounds_of bounds.now) targets.now contents (F.left files.old)) (O.bytes out.old) (O.bytes out.new) (E.bytes err.old) (E.bytes err.new) (E.faults err.old) (E.faults err.new) result) }
+    ensures ends { IfSome (F.contents files.old) (λ contents. Ends (targets_total settings.now.report_all (bounds_of settings.now.bounds) settings.now.targets contents (F.left files.old)) (O.bytes out.old) (O.bytes out.new) (E.bytes err.old) (E.bytes err.new) (E.faults err.old) (E.faults err.new) result) }
     ensures status { IfOk result (λ status. status ≤ 2) }
     ensures cause { HasStopCause (F.faults files.old) (F.faults files.new) (O.faults out.old) (O.faults out.new) (E.faults err.old) (E.faults err.new) result }
 {
     let mut worst = 0u8;
-    for i in 0..targets.len() {
-        let name = targets.get(i).unwrap();
-        let status = check_target(alloc, name, bounds, files, out, err)?;
+    for i in 0..settings.targets.len() {
+        let name = settings.targets.get(i).unwrap();
+        let status = check_target(alloc, name, settings, files, out, err)?;
         worst = worst.max(status);
     }
     Ok(worst)
@@ -61,9 +60,7 @@ fn check_words<F: Files, O: Sink, E: Sink>(
     ensures cause { HasStopCause (F.faults files.old) (F.faults files.new) (O.faults out.old) (O.faults out.new) (E.faults err.old) (E.faults err.new) result }
 {
     match settings(alloc, words)? {
-        Some(settings) => {
-            check_targets(alloc, &settings.bounds, &settings.targets, files, out, err)
-        }
+        Some(settings) => check_targets(alloc, &settings, files, out, err),
         None => refuse_words(out, err),
     }
 }

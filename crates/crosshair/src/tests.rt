@@ -2,6 +2,7 @@ ghost use Rattle.std.specs.Prelude.{◌≡◌, ◌<◌, ◌≤◌, length, IfOk}
 
 use crate::report::add_program;
 use crate::run::run;
+use crate::settings::Settings;
 use first_tree::{BinaryOp, Bounds, CompareOp, ExprId, ExprNode, FnNode, Module, Parameters};
 use std::alloc::Global;
 use std::process::Abort;
@@ -71,7 +72,7 @@ fn expect_run(
 fn refuses_words(rt: HostRuntime) -> Result<(), Fail> {
     let alloc = rt.alloc();
     let mut files = files_of(alloc)?;
-    let refused: [&[&str]; 8] = [
+    let refused: [&[&str]; 17] = [
         &[],
         &["check"],
         &["check", "--frob", "m.py"],
@@ -80,6 +81,16 @@ fn refuses_words(rt: HostRuntime) -> Result<(), Fail> {
         &["check", "m.py:3"],
         &["check", ""],
         &["", "m.py"],
+        &["check", "m.py", "inc.py"],
+        // the option once, and directly before or after a file
+        &["check", "--report_all"],
+        &["check", "--report_all", "--report_all"],
+        &["check", "--report_all", "m.py", "--report_all"],
+        &["check", "--report_all", "--report_all", "m.py"],
+        &["check", "--report_all=1", "m.py"],
+        &["check", "m.py", "--report_all=1"],
+        &["check", "--report_all", "m.py:3"],
+        &["--report_all", "check", "m.py"],
     ];
     for names in refused {
         expect_run(&rt, alloc, names, &mut files, (100, 100), (2, "", USAGE))?;
@@ -125,6 +136,34 @@ fn answers_the_status(rt: HostRuntime) -> Result<(), Fail> {
         roomy,
         (4, "", "m.py: read fault\n"),
     )
+}
+
+#[test]
+fn prints_all_results_only_where_asked(rt: HostRuntime) -> Result<(), Fail> {
+    let alloc = rt.alloc();
+    let mut files = files_of(alloc)?;
+    let confirmed =
+        "inc.py:1: info: Confirmed over all paths.\ninc.py:2: info: Confirmed over all paths.\n";
+    let limited =
+        "big.py:1: info: Not confirmed. (int limit when calling big(x = -103))\nbig.py:2: info: Not confirmed. (int limit when calling big(x = -103))\n";
+    let mixed =
+        "m.py:1: info: Confirmed over all paths.\nm.py:2: error: false when calling sq(x = 0) (which returns 0)\n";
+    let error = "m.py:2: error: false when calling sq(x = 0) (which returns 0)\n";
+    let roomy = (200, 200);
+    let table: [(&str, u8, &str, &str); 3] = [
+        ("inc.py", 0, confirmed, ""),
+        ("big.py", 0, limited, ""),
+        ("m.py", 1, mixed, error),
+    ];
+    for (name, status, all, errors) in table {
+        let before = ["check", "--report_all", name];
+        expect_run(&rt, alloc, &before, &mut files, roomy, (status, all, ""))?;
+        let after = ["check", name, "--report_all"];
+        expect_run(&rt, alloc, &after, &mut files, roomy, (status, all, ""))?;
+        let plain = ["check", name];
+        expect_run(&rt, alloc, &plain, &mut files, roomy, (status, errors, ""))?;
+    }
+    Ok(())
 }
 
 #[test]
@@ -422,7 +461,12 @@ fn expect_report(
     want: (bool, &str),
 ) -> Result<(), Fail> {
     let mut text = Bytes::new(alloc);
-    let fails = add_program(alloc, "m.py", trees, &Bounds::standard(), &mut text)?;
+    let settings = Settings {
+        bounds: Bounds::standard(),
+        report_all: false,
+        targets: Words::new(alloc),
+    };
+    let fails = add_program(alloc, "m.py", trees, &settings, &mut text)?;
     assert_eq!(rt; fails, want.0);
     assert_eq!(rt; text.as_slice(), want.1.as_bytes());
     Ok(())

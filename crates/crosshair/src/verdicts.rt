@@ -4,6 +4,7 @@ ghost use Rattle.spec_running.specs.Running.{bound};
 ghost use Rattle.spec_calls.specs.Calls.{made};
 ghost use Rattle.spec_verdicts.specs.Breaking.{line_outcome};
 ghost use Rattle.spec_verdicts.specs.Verdicts.{verdict, verdict_over, undecided};
+ghost use Rattle.spec_verdicts.specs.Report.{is_error};
 ghost use Rattle.first_tree.specs.Arena.{shown};
 ghost use Rattle.first_tree.specs.BoundsOf.{bounds_of};
 ghost use Rattle.crosshair.specs.Evaluates.{local_in};
@@ -55,6 +56,18 @@ pub enum Verdict {
     NotConfirmed { call: Call, kind: LimitKind },
     Unmet,
     Confirmed,
+}
+
+impl Verdict {
+    /// Whether some call breaks the condition.
+    pub fn is_error(self) -> bool
+        ensures { result ≡ is_error (verdict_in self) }
+    {
+        match self {
+            Verdict::Error { .. } => true,
+            Verdict::NotConfirmed { .. } | Verdict::Unmet | Verdict::Confirmed => false,
+        }
+    }
 }
 
 /// A parameter with its argument.

@@ -1,2 +1,4 @@
 pub mod Meanings
+pub mod OffOut
+pub mod Rows
 pub mod StatusRows

@@ -24,22 +24,22 @@ program_case b files left name p a true e = Failing (record { program = p; admit
 program_case b files left name p a false e = Passing (record { program = p; admitted = a; calm = e }) refl refl
 
 -- a content that is short enough is a program, or is refused at a line
-content_case : (b : Bounds) (files : List (List ℕ × List ℕ)) (left : Option ℕ) (name content : List ℕ) → content_of files name ≡ Some content → length content ≤ READ_LIMIT → (a : Result Program Refusal) → admit content ≡ a → Outcome b files left name (report_of_admission name b a).status false
-content_case b files left name content found short (Ok p) e = program_case b files left name p (record { content = content; found = found; short = short; admitted = e }) (list_any (has_error b) p.functions) refl
-content_case b files left name content found short (Err r) e = Refusing (record { content = content; found = found; refused = inr (r, e) }) refl refl
+content_case : (all : Bool) (b : Bounds) (files : List (List ℕ × List ℕ)) (left : Option ℕ) (name content : List ℕ) → content_of files name ≡ Some content → length content ≤ READ_LIMIT → (a : Result Program Refusal) → admit content ≡ a → Outcome b files left name (report_of_admission all name b a).status false
+content_case all b files left name content found short (Ok p) e = program_case b files left name p (record { content = content; found = found; short = short; admitted = e }) (list_any (has_error b) p.functions) refl
+content_case all b files left name content found short (Err r) e = Refusing (record { content = content; found = found; refused = inr (r, e) }) refl refl
 
 -- a content that is held is short enough, or is refused
-within_case : (b : Bounds) (files : List (List ℕ × List ℕ)) (left : Option ℕ) (name content : List ℕ) → content_of files name ≡ Some content → (fits : Bool) → nat_le (length content) READ_LIMIT ≡ fits
-    → Outcome b files left name (entry_of b name (if fits then Ok content else Err TooLong)).status (is_failed (if fits then Ok content else Err TooLong))
+within_case : (all : Bool) (b : Bounds) (files : List (List ℕ × List ℕ)) (left : Option ℕ) (name content : List ℕ) → content_of files name ≡ Some content → (fits : Bool) → nat_le (length content) READ_LIMIT ≡ fits
+    → Outcome b files left name (entry_of all b name (if fits then Ok content else Err TooLong)).status (is_failed (if fits then Ok content else Err TooLong))
 unfolding report_of
-within_case b files left name content found true e = content_case b files left name content found (grind (arith, nat_tests)) (admit content) refl
-within_case b files left name content found false e = Refusing (record { content = content; found = found; refused = inl (grind (arith, nat_tests)) }) refl refl
+within_case all b files left name content found true e = content_case all b files left name content found (grind (arith, nat_tests)) (admit content) refl
+within_case all b files left name content found false e = Refusing (record { content = content; found = found; refused = inl (grind (arith, nat_tests)) }) refl refl
 
 -- a name is held by the files, or its read fails
-held_case : (b : Bounds) (files : List (List ℕ × List ℕ)) (left : Option ℕ) (name : List ℕ) (held : Option (List ℕ)) → content_of files name ≡ held
-    → Outcome b files left name (entry_of b name (read_within held READ_LIMIT)).status (is_failed (read_within held READ_LIMIT))
-held_case b files left name None e = Unread (inl e) refl refl
-held_case b files left name (Some content) e = within_case b files left name content e (nat_le (length content) READ_LIMIT) refl
+held_case : (all : Bool) (b : Bounds) (files : List (List ℕ × List ℕ)) (left : Option ℕ) (name : List ℕ) (held : Option (List ℕ)) → content_of files name ≡ held
+    → Outcome b files left name (entry_of all b name (read_within held READ_LIMIT)).status (is_failed (read_within held READ_LIMIT))
+held_case all b files left name None e = Unread (inl e) refl refl
+held_case all b files left name (Some content) e = within_case all b files left name content e (nat_le (length content) READ_LIMIT) refl
 
 -- a read that is due has none left before it
 due_is : (left : Option ℕ) → is_due left ≡ true → left ≡ Some 0
@@ -47,14 +47,14 @@ due_is None e = absurd cc
 due_is (Some n) e = let zero_left : n ≡ 0 = grind (arith, nat_tests) in ap (λ x. Some x) zero_left
 
 -- a read is the one that is made to fail, or answers by the files
-due_case : (b : Bounds) (files : List (List ℕ × List ℕ)) (left : Option ℕ) (name : List ℕ) (due : Bool) → is_due left ≡ due
-    → Outcome b files left name (entry_of b name (if due then Err Failed else read_within (content_of files name) READ_LIMIT)).status (is_failed (if due then Err Failed else read_within (content_of files name) READ_LIMIT))
-due_case b files left name true e = Unread (inr (due_is left e)) refl refl
-due_case b files left name false e = held_case b files left name (content_of files name) refl
+due_case : (all : Bool) (b : Bounds) (files : List (List ℕ × List ℕ)) (left : Option ℕ) (name : List ℕ) (due : Bool) → is_due left ≡ due
+    → Outcome b files left name (entry_of all b name (if due then Err Failed else read_within (content_of files name) READ_LIMIT)).status (is_failed (if due then Err Failed else read_within (content_of files name) READ_LIMIT))
+due_case all b files left name true e = Unread (inr (due_is left e)) refl refl
+due_case all b files left name false e = held_case all b files left name (content_of files name) refl
 
 -- what one target comes to
-pub outcome_of : (b : Bounds) (files : List (List ℕ × List ℕ)) (left : Option ℕ) (name : List ℕ) → Outcome b files left name (entry_of b name (read_of files left name READ_LIMIT)).status (is_failed (read_of files left name READ_LIMIT))
-outcome_of b files left name = due_case b files left name (is_due left) refl
+pub outcome_of : (all : Bool) (b : Bounds) (files : List (List ℕ × List ℕ)) (left : Option ℕ) (name : List ℕ) → Outcome b files left name (entry_of all b name (read_of files left name READ_LIMIT)).status (is_failed (read_of files left name READ_LIMIT))
+outcome_of all b files left name = due_case all b files left name (is_due left) refl
 
 -- after a read that did not fail the rest counts
 rest_counts : (s : ℕ) (failed : Bool) (rest : Total) (want : ℕ) → failed ≡ false → max s (if failed then nothing else rest).status ≡ want → max s rest.status ≡ want
@@ -106,30 +106,30 @@ four_step b files left name names s failed rest (Unread (inl p) is f) later e = 
 four_step b files left name names s failed rest (Unread (inr p) is f) later e = inr (inl p)
 
 -- the status is 0 only where each target passes
-pub zero_means : (b : Bounds) (names : List (List ℕ)) (files : List (List ℕ × List ℕ)) (left : Option ℕ) → (targets_total b names files left).status ≡ 0 → EachTarget (Passes b files) names
-zero_means b [] files left e = tt
-zero_means b (name ∷ names) files left e = zero_step b files left name names _ _ (targets_total b names files (next_left left)) (outcome_of b files left name) (zero_means b names files (next_left left)) e
+pub zero_means : (all : Bool) (b : Bounds) (names : List (List ℕ)) (files : List (List ℕ × List ℕ)) (left : Option ℕ) → (targets_total all b names files left).status ≡ 0 → EachTarget (Passes b files) names
+zero_means all b [] files left e = tt
+zero_means all b (name ∷ names) files left e = zero_step b files left name names _ _ (targets_total all b names files (next_left left)) (outcome_of all b files left name) (zero_means all b names files (next_left left)) e
 
 -- the status is at most 1 only where each target passes or fails
-low_means : (b : Bounds) (names : List (List ℕ)) (files : List (List ℕ × List ℕ)) (left : Option ℕ) (want : ℕ) → (targets_total b names files left).status ≡ want → want ≤ 1 → EachTarget (λ n. Passes b files n ⊎ Fails b files n) names
-low_means b [] files left want e low = tt
-low_means b (name ∷ names) files left want e low = low_step b files left name names _ _ (targets_total b names files (next_left left)) want (outcome_of b files left name) (low_means b names files (next_left left)) e low
+low_means : (all : Bool) (b : Bounds) (names : List (List ℕ)) (files : List (List ℕ × List ℕ)) (left : Option ℕ) (want : ℕ) → (targets_total all b names files left).status ≡ want → want ≤ 1 → EachTarget (λ n. Passes b files n ⊎ Fails b files n) names
+low_means all b [] files left want e low = tt
+low_means all b (name ∷ names) files left want e low = low_step b files left name names _ _ (targets_total all b names files (next_left left)) want (outcome_of all b files left name) (low_means all b names files (next_left left)) e low
 
 -- the status is 1 only where some target fails
-fails_some : (b : Bounds) (names : List (List ℕ)) (files : List (List ℕ × List ℕ)) (left : Option ℕ) → (targets_total b names files left).status ≡ 1 → SomeTarget (Fails b files) names
-fails_some b [] files left e = absurd (omega (arith, e))
-fails_some b (name ∷ names) files left e = one_step b files left name names _ _ (targets_total b names files (next_left left)) (outcome_of b files left name) (fails_some b names files (next_left left)) e
+fails_some : (all : Bool) (b : Bounds) (names : List (List ℕ)) (files : List (List ℕ × List ℕ)) (left : Option ℕ) → (targets_total all b names files left).status ≡ 1 → SomeTarget (Fails b files) names
+fails_some all b [] files left e = absurd (omega (arith, e))
+fails_some all b (name ∷ names) files left e = one_step b files left name names _ _ (targets_total all b names files (next_left left)) (outcome_of all b files left name) (fails_some all b names files (next_left left)) e
 
 -- the status is 1 only where each target passes or fails, and some target fails
-pub one_means : (b : Bounds) (names : List (List ℕ)) (files : List (List ℕ × List ℕ)) (left : Option ℕ) → (targets_total b names files left).status ≡ 1 → EachTarget (λ n. Passes b files n ⊎ Fails b files n) names × SomeTarget (Fails b files) names
-one_means b names files left e = (low_means b names files left 1 e (omega arith), fails_some b names files left e)
+pub one_means : (all : Bool) (b : Bounds) (names : List (List ℕ)) (files : List (List ℕ × List ℕ)) (left : Option ℕ) → (targets_total all b names files left).status ≡ 1 → EachTarget (λ n. Passes b files n ⊎ Fails b files n) names × SomeTarget (Fails b files) names
+one_means all b names files left e = (low_means all b names files left 1 e (omega arith), fails_some all b names files left e)
 
 -- the status is 2 only where some target is refused
-pub two_means : (b : Bounds) (names : List (List ℕ)) (files : List (List ℕ × List ℕ)) (left : Option ℕ) → (targets_total b names files left).status ≡ 2 → SomeTarget (IsRefused files) names
-two_means b [] files left e = absurd (omega (arith, e))
-two_means b (name ∷ names) files left e = two_step b files left name names _ _ (targets_total b names files (next_left left)) (outcome_of b files left name) (two_means b names files (next_left left)) e
+pub two_means : (all : Bool) (b : Bounds) (names : List (List ℕ)) (files : List (List ℕ × List ℕ)) (left : Option ℕ) → (targets_total all b names files left).status ≡ 2 → SomeTarget (IsRefused files) names
+two_means all b [] files left e = absurd (omega (arith, e))
+two_means all b (name ∷ names) files left e = two_step b files left name names _ _ (targets_total all b names files (next_left left)) (outcome_of all b files left name) (two_means all b names files (next_left left)) e
 
 -- the status is 4 only where the read of some target fails
-pub four_means : (b : Bounds) (names : List (List ℕ)) (files : List (List ℕ × List ℕ)) (left : Option ℕ) → (targets_total b names files left).status ≡ 4 → SomeReadFails files names left
-four_means b [] files left e = absurd (omega (arith, e))
-four_means b (name ∷ names) files left e = four_step b files left name names _ _ (targets_total b names files (next_left left)) (outcome_of b files left name) (four_means b names files (next_left left)) e
+pub four_means : (all : Bool) (b : Bounds) (names : List (List ℕ)) (files : List (List ℕ × List ℕ)) (left : Option ℕ) → (targets_total all b names files left).status ≡ 4 → SomeReadFails files names left
+four_means all b [] files left e = absurd (omega (arith, e))
+four_means all b (name ∷ names) files left e = four_step b files left name names _ _ (targets_total all b names files (next_left left)) (outcome_of all b files left name) (four_means all b names files (next_left left)) e

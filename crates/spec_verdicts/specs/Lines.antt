@@ -1,8 +1,10 @@
 -- The lines that are written. A line ends with a line feed.
-use Rattle.std.specs.Prelude.{ℕ, List, [], ◌++◌, codes}
+use Rattle.std.specs.Prelude.{ℕ, Bool, List, [], ◌++◌, codes, if◌then◌else◌}
 use Rattle.std.specs.Fmt.{decimal}
 use Rattle.spec_first_trees.specs.declared.ExcClass.{ExcClass}
 use Rattle.spec_first_trees.specs.declared.ExcClass.TheVariants.{Exception, ArithmeticError, ZeroDivisionError, LookupError, IndexError, KeyError, ValueError, TypeError, AttributeError, NameError, UnboundLocalError, AssertionError, RuntimeError, NotImplementedError}
+use Rattle.spec_first_trees.specs.declared.LimitKind.{LimitKind}
+use Rattle.spec_first_trees.specs.declared.LimitKind.TheVariants as limit
 use Rattle.spec_first_trees.specs.Program.{Function}
 use Rattle.spec_running.specs.declared.Value.{Value}
 use Rattle.spec_running.specs.declared.Value.TheVariants.{Nil, Bool as Truth, Int}
@@ -42,6 +44,20 @@ fault_text f c (RaisedInPost k) = class_name k ++ codes " in postcondition when 
 unfoldable pub error_line : List ℕ → ℕ → Function → Call → Fault → List ℕ
 error_line name line f c fault = name ++ codes ":" ++ decimal line ++ codes ": error: " ++ fault_text f c fault ++ codes "\n"
 
+abbrev pub limit_name : LimitKind → List ℕ
+limit_name limit.Steps = codes "steps"
+limit_name limit.Depth = codes "depth"
+limit_name limit.Int = codes "int"
+limit_name limit.Profile = codes "profile"
+
+-- `Not confirmed. (KIND limit when calling CALL)`
+abbrev pub limit_text : Function → Call → LimitKind → List ℕ
+limit_text f c kind = codes "Not confirmed. (" ++ limit_name kind ++ codes " limit when calling " ++ printed f c ++ codes ")"
+
+-- `NAME:LINE: info: TEXT`
+unfoldable pub info_line : List ℕ → ℕ → List ℕ → List ℕ
+info_line name line text = name ++ codes ":" ++ decimal line ++ codes ": info: " ++ text ++ codes "\n"
+
 -- `NAME:LINE: refused: KIND`
 unfoldable pub refusal_line : List ℕ → ℕ → List ℕ → List ℕ
 refusal_line name line kind = name ++ codes ":" ++ decimal line ++ codes ": refused: " ++ kind ++ codes "\n"
@@ -50,12 +66,16 @@ refusal_line name line kind = name ++ codes ":" ++ decimal line ++ codes ": refu
 abbrev pub fault_line : List ℕ → List ℕ
 fault_line name = name ++ codes ": read fault\n"
 
--- what is written for a verdict: results that are no errors are left out
-abbrev pub verdict_line : List ℕ → ℕ → Function → Verdict → List ℕ
-verdict_line name line f (Error c fault) = error_line name line f c fault
-verdict_line name line f (NotConfirmed c k) = []
-verdict_line name line f Unmet = []
-verdict_line name line f Confirmed = []
+-- a line that is written only where all results are
+abbrev pub info_if : Bool → List ℕ → List ℕ
+info_if all line = if all then line else []
+
+-- what is written for a verdict: an error always, any other result where all are
+abbrev pub verdict_line : Bool → List ℕ → ℕ → Function → Verdict → List ℕ
+verdict_line all name line f (Error c fault) = error_line name line f c fault
+verdict_line all name line f (NotConfirmed c kind) = info_if all (info_line name line (limit_text f c kind))
+verdict_line all name line f Unmet = info_if all (info_line name line (codes "Unable to meet precondition."))
+verdict_line all name line f Confirmed = info_if all (info_line name line (codes "Confirmed over all paths."))
 
 abbrev pub usage : List ℕ
 usage = codes "usage: crosshair check [OPTIONS] FILE[:LINE]...\n       crosshair demo N\n"

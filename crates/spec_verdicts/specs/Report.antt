@@ -26,6 +26,10 @@ pub record Total : Type 0 where
 abbrev pub nothing : Total
 nothing = record { out = []; entries = []; fault = []; status = 0 }
 
+-- a total without the bytes on out
+abbrev pub off_out : Total → Total
+off_out t = record t { out = [] }
+
 -- what a file that was read adds
 pub record Report : Type 0 where
   pub out : List ℕ
@@ -55,36 +59,36 @@ is_error (NotConfirmed c k) = false
 is_error Unmet = false
 is_error Confirmed = false
 
--- the lines of the conditions of a function, in order
-unfoldable pub function_text : List ℕ → Bounds → Function → List ℕ
-function_text name bounds f = flat_map (λ k. verdict_line name (line_of k) f (verdict f k bounds)) f.conditions
+-- the lines of the conditions of a function, in order, where all results are written or the errors alone
+unfoldable pub function_text : Bool → List ℕ → Bounds → Function → List ℕ
+function_text all name bounds f = flat_map (λ k. verdict_line all name (line_of k) f (verdict f k bounds)) f.conditions
 
 unfoldable pub has_error : Bounds → Function → Bool
 has_error bounds f = list_any (λ k. is_error (verdict f k bounds)) f.conditions
 
 -- The report of a program: its functions in order. The status is 1 where a verdict is an error.
-abbrev pub program_report : List ℕ → Bounds → Program → Report
-program_report name bounds p = record {
-  out = flat_map (function_text name bounds) p.functions;
+abbrev pub program_report : Bool → List ℕ → Bounds → Program → Report
+program_report all name bounds p = record {
+  out = flat_map (function_text all name bounds) p.functions;
   entries = [];
   status = if list_any (has_error bounds) p.functions then 1 else 0;
 }
 
 -- the report of an admitted program, or the refusal
-abbrev pub report_of_admission : List ℕ → Bounds → Result Program Refusal → Report
-report_of_admission name bounds (Ok p) = program_report name bounds p
-report_of_admission name bounds (Err r) = refused (refusal_line name r.line r.kind)
+abbrev pub report_of_admission : Bool → List ℕ → Bounds → Result Program Refusal → Report
+report_of_admission all name bounds (Ok p) = program_report all name bounds p
+report_of_admission all name bounds (Err r) = refused (refusal_line name r.line r.kind)
 
 -- what a content adds
-unfoldable pub report_of : Bounds → List ℕ → List ℕ → Report
-report_of bounds name content = report_of_admission name bounds (admit content)
+unfoldable pub report_of : Bool → Bounds → List ℕ → List ℕ → Report
+report_of all bounds name content = report_of_admission all name bounds (admit content)
 
 -- what one target adds, by what its read answers
-abbrev pub entry_of : Bounds → List ℕ → Result (List ℕ) ReadError → Total
-entry_of bounds name (Ok content) = reported (report_of bounds name content)
-entry_of bounds name (Err TooLong) = reported (refused (refusal_line name 1 (codes "TooLong")))
-entry_of bounds name (Err Failed) = read_fault (fault_line name)
-entry_of bounds name (Err NoMemory) = nothing
+abbrev pub entry_of : Bool → Bounds → List ℕ → Result (List ℕ) ReadError → Total
+entry_of all bounds name (Ok content) = reported (report_of all bounds name content)
+entry_of all bounds name (Err TooLong) = reported (refused (refusal_line name 1 (codes "TooLong")))
+entry_of all bounds name (Err Failed) = read_fault (fault_line name)
+entry_of all bounds name (Err NoMemory) = nothing
 
 abbrev pub is_failed : Result (List ℕ) ReadError → Bool
 is_failed (Ok content) = false
@@ -97,15 +101,15 @@ abbrev pub after : Result (List ℕ) ReadError → Total → Total
 after answer rest = if is_failed answer then nothing else rest
 
 -- the targets in order, up to the first whose read fails
-abbrev pub targets_total : Bounds → List (List ℕ) → List (List ℕ × List ℕ) → Option ℕ → Total
-targets_total bounds [] files left = nothing
-targets_total bounds (name ∷ names) files left =
+abbrev pub targets_total : Bool → Bounds → List (List ℕ) → List (List ℕ × List ℕ) → Option ℕ → Total
+targets_total all bounds [] files left = nothing
+targets_total all bounds (name ∷ names) files left =
     let answer = read_of files left name READ_LIMIT in
-    join (entry_of bounds name answer) (after answer (targets_total bounds names files (next_left left)))
+    join (entry_of all bounds name answer) (after answer (targets_total all bounds names files (next_left left)))
 
 abbrev pub settled_total : Option Settings → Option (List (List ℕ × List ℕ)) → Option ℕ → Option Total
 settled_total None contents left = Some (reported (refused usage))
-settled_total (Some s) contents left = option_map (λ files. targets_total s.bounds s.targets files left) contents
+settled_total (Some s) contents left = option_map (λ files. targets_total s.report_all s.bounds s.targets files left) contents
 
 -- The whole run, where the words and what is told of the files determine it: refused words, or files that tell their contents.
 abbrev pub known_total : List (List ℕ) → Option (List (List ℕ × List ℕ)) → Option ℕ → Option Total

@@ -1,7 +1,7 @@
 //! The verdict of each condition, and the whole run of the program.
 #![tactic(auto)]
 
-ghost use Rattle.std.specs.Prelude.{◌≡◌, ◌⊎◌, ℕ, true, false, List, Option, Some, slice_get};
+ghost use Rattle.std.specs.Prelude.{◌≡◌, ◌⊎◌, ℕ, Bool, true, false, List, Option, Some, slice_get};
 ghost use Rattle.std.specs.List.{list_all};
 ghost use Rattle.spec_first_trees.specs.declared.LimitKind.{LimitKind};
 ghost use Rattle.spec_first_trees.specs.Bounds.{Bounds};
@@ -10,7 +10,7 @@ ghost use Rattle.spec_calls.specs.Calls.{Call, calls};
 ghost use Rattle.spec_verdicts.specs.Breaking.{Fault, broken, limited, is_unmet};
 ghost use Rattle.spec_verdicts.specs.Verdicts.{Error, NotConfirmed, Unmet, Confirmed, verdict};
 ghost use Rattle.spec_verdicts.specs.Firsts.{FirstAt, Nowhere};
-ghost use Rattle.spec_verdicts.specs.Report.{targets_total};
+ghost use Rattle.spec_verdicts.specs.Report.{off_out, targets_total};
 ghost use Rattle.spec_verdicts.specs.Statuses.{EachTarget, SomeTarget, Passes, Fails, IsRefused, SomeReadFails};
 
 /// The greatest number of bytes that a file may have: 1 MiB.
@@ -39,23 +39,29 @@ pub fn confirmed_means_every_call()
     ensures { (f : Function) (k : Condition) (b : Bounds) → verdict f k b ≡ Confirmed → Nowhere (broken f k b) (calls f b) × Nowhere (limited f k b) (calls f b) × (list_all (is_unmet f b) (calls f b) ≡ false) }
 {}
 
+/// Whether all results are written or the errors alone shows on out and nowhere else: what stands
+/// on err and the status are the same.
+pub fn all_results_show_on_out_alone()
+    ensures { (b : Bounds) (names : List (List ℕ)) (files : List (List ℕ × List ℕ)) (left : Option ℕ) → off_out (targets_total true b names files left) ≡ off_out (targets_total false b names files left) }
+{}
+
 /// Where the status of the targets is 0, each of them is admitted, and no condition of it has an error.
 pub fn status_0_means_that_each_target_passes()
-    ensures { (b : Bounds) (names : List (List ℕ)) (files : List (List ℕ × List ℕ)) (left : Option ℕ) → (targets_total b names files left).status ≡ 0 → EachTarget (Passes b files) names }
+    ensures { (all : Bool) (b : Bounds) (names : List (List ℕ)) (files : List (List ℕ × List ℕ)) (left : Option ℕ) → (targets_total all b names files left).status ≡ 0 → EachTarget (Passes b files) names }
 {}
 
 /// Where the status of the targets is 1, each of them is admitted, and some target has a condition with an error.
 pub fn status_1_means_that_some_target_fails()
-    ensures { (b : Bounds) (names : List (List ℕ)) (files : List (List ℕ × List ℕ)) (left : Option ℕ) → (targets_total b names files left).status ≡ 1 → EachTarget (λ name. Passes b files name ⊎ Fails b files name) names × SomeTarget (Fails b files) names }
+    ensures { (all : Bool) (b : Bounds) (names : List (List ℕ)) (files : List (List ℕ × List ℕ)) (left : Option ℕ) → (targets_total all b names files left).status ≡ 1 → EachTarget (λ name. Passes b files name ⊎ Fails b files name) names × SomeTarget (Fails b files) names }
 {}
 
 /// Where the status of the targets is 2, some target is refused.
 pub fn status_2_means_that_some_target_is_refused()
-    ensures { (b : Bounds) (names : List (List ℕ)) (files : List (List ℕ × List ℕ)) (left : Option ℕ) → (targets_total b names files left).status ≡ 2 → SomeTarget (IsRefused files) names }
+    ensures { (all : Bool) (b : Bounds) (names : List (List ℕ)) (files : List (List ℕ × List ℕ)) (left : Option ℕ) → (targets_total all b names files left).status ≡ 2 → SomeTarget (IsRefused files) names }
 {}
 
 /// Where the status of the targets is 4, the read of some target fails: the files do not hold its name, or the read is
 /// the one that is made to fail.
 pub fn status_4_means_that_some_read_fails()
-    ensures { (b : Bounds) (names : List (List ℕ)) (files : List (List ℕ × List ℕ)) (left : Option ℕ) → (targets_total b names files left).status ≡ 4 → SomeReadFails files names left }
+    ensures { (all : Bool) (b : Bounds) (names : List (List ℕ)) (files : List (List ℕ × List ℕ)) (left : Option ℕ) → (targets_total all b names files left).status ≡ 4 → SomeReadFails files names left }
 {}
