@@ -1,6 +1,6 @@
 -- What a content is admitted as, from what its phases answer.
 use Rattle.std.proofs.Common.{◌≡◌, ℕ, Bool, true, false, List, [], Result, Ok, Err, refl, sym, ap, ◌∙◌, if◌then◌else◌}
-use Rattle.std.specs.Prelude.{IsUtf8, chars, codes}
+use Rattle.std.specs.Prelude.{⊤, IsUtf8, chars, codes}
 use Rattle.std.specs.Str.{is_utf8}
 use Rattle.std.proofs.lemmas.Str.{IsUtf8-from_is_utf8, is_utf8-from_IsUtf8}
 use Rattle.spec_tokens.specs.declared.Refusal as tokens
@@ -14,7 +14,7 @@ use Rattle.spec_syntax.specs.Lines.{word_lines}
 use Rattle.spec_syntax.specs.Phases.{Misfit, parsed}
 use Rattle.spec_contracts.specs.ContractLines.{contracts_of}
 use Rattle.spec_forms.specs.Forms.{functions_of}
-use Rattle.spec_forms.specs.Admission.{as_tokens, as_block, as_contracts, formed, refused, invalid_line, admit, admit_text}
+use Rattle.spec_admission.specs.Admission.{as_tokens, as_block, as_contracts, as_profile, profile_fault_name, formed, refused, invalid_line, admit, admit_text}
 use Rattle.py_tokens.specs.declared.errors.TokenError.{TokenError}
 use Rattle.py_tokens.specs.declared.errors.TokenError.TheVariants as token
 use Rattle.py_tokens.specs.Scanned.{IsRefused, refusal_of}
@@ -26,12 +26,18 @@ use Rattle.contract_lines.specs.declared.contracts.ContractLine.{ContractLine}
 use Rattle.contract_lines.specs.declared.errors.ContractError.{ContractError}
 use Rattle.contract_lines.specs.declared.errors.ContractError.TheVariants as contract
 use Rattle.contract_lines.specs.Given.{GivesContracts}
+use Rattle.spec_names.specs.declared.ProfileFault.{ProfileFault}
+use Rattle.spec_names.specs.declared.ProfileFault.TheVariants as fault
+use Rattle.spec_names.specs.Profile.{profile_refusal}
+use Rattle.py_profile.specs.Checking.{Answers}
+use Rattle.py_profile.specs.declared.errors.ProfileError.{ProfileError}
+use Rattle.py_profile.specs.declared.errors.ProfileError.TheVariants as profile
 use Rattle.first_tree.specs.Arena.{ModuleState}
 use Rattle.first_forms.specs.declared.errors.FormError.{FormError}
 use Rattle.first_forms.specs.declared.errors.FormError.TheVariants as form
 use Rattle.first_forms.specs.Formed.{AreFormed}
-use Rattle.crosshair.specs.Answers.{IsAdmission}
-use Rattle.crosshair.specs.Refusals.{token_refusal, syntax_refusal, contract_refusal, form_refusal}
+use Rattle.crosshair.specs.Answers.{IsAdmission, kind_name}
+use Rattle.crosshair.specs.Refusals.{token_refusal, syntax_refusal, contract_refusal, form_refusal, profile_kind, profile_refused}
 
 -- ---- the encoding
 
@@ -91,16 +97,33 @@ contracts_refused bytes s m n (contract.UnknownName k) h g c = block_is bytes s 
 contracts_refused bytes s m n (contract.Misplaced k) h g c = block_is bytes s m h g ∙ ap (as_contracts (module_tree m).body) c
 contracts_refused bytes s m n contract.NoMemory h g c = tt
 
--- ---- functions
+-- ---- names, and functions
+
+kind_is : (f : ProfileFault) → profile_fault_name f ≡ kind_name (profile_kind f)
+kind_is fault.UnknownName = refl
+kind_is fault.Duplicate = refl
+kind_is fault.MissingType = refl
+kind_is fault.UnknownType = refl
+kind_is fault.ModuleStatement = refl
+kind_is fault.TooWide = refl
+kind_is fault.Form = refl
 
 -- the functions of a module whose contract lines are read, and which is another state behind them
 module _ (bytes : List ℕ) (s : Scan) (m n : State) (ls : List ContractLine) (h : IsScan (chars bytes) (Ok s)) (g : GivesModule (Ok m) (parsed (word_lines s))) (c : GivesContracts n (Ok ls) (contracts_of (module_tree m).body)) (t : module_tree n ≡ module_tree m) where
-  functions_are : admit_text (chars bytes) ≡ formed (functions_of [] (module_tree n).body)
-  functions_are = block_is bytes s m h g ∙ ap (as_contracts (module_tree m).body) c.1 ∙ ap (λ (u : tree.Module). formed (functions_of [] u.body)) (sym t)
+  profile_is : admit_text (chars bytes) ≡ as_profile (module_tree n).body (profile_refusal (module_tree n).body)
+  profile_is = block_is bytes s m h g ∙ ap (as_contracts (module_tree m).body) c.1 ∙ ap (λ (u : tree.Module). as_profile u.body (profile_refusal u.body)) (sym t)
 
-  pub functions_refused : (e : FormError) → AreFormed (Err e) (functions_of [] (module_tree n).body) → IsAdmission (admit_text (chars bytes)) (Err (form_refusal e))
-  functions_refused (form.NotBuilt k) f = functions_are ∙ ap formed f
-  functions_refused form.NoMemory f = tt
+  pub names_refused : (e : ProfileError) → Answers (Err e) (profile_refusal (module_tree n).body) → IsAdmission (admit_text (chars bytes)) (Err (profile_refused e))
+  names_refused (profile.Refused k f) p = profile_is ∙ ap (as_profile (module_tree n).body) p ∙ ap (refused k) (kind_is f)
+  names_refused profile.NoMemory p = tt
 
-  pub functions_admitted : (r : ModuleState) → AreFormed (Ok r) (functions_of [] (module_tree n).body) → IsAdmission (admit_text (chars bytes)) (Ok r)
-  functions_admitted r f = functions_are ∙ ap formed f
+  module _ (u : ⊤) (p : Answers (Ok u) (profile_refusal (module_tree n).body)) where
+    functions_are : admit_text (chars bytes) ≡ formed (functions_of [] (module_tree n).body)
+    functions_are = profile_is ∙ ap (as_profile (module_tree n).body) p
+
+    pub functions_refused : (e : FormError) → AreFormed (Err e) (functions_of [] (module_tree n).body) → IsAdmission (admit_text (chars bytes)) (Err (form_refusal e))
+    functions_refused (form.NotBuilt k) f = functions_are ∙ ap formed f
+    functions_refused form.NoMemory f = tt
+
+    pub functions_admitted : (r : ModuleState) → AreFormed (Ok r) (functions_of [] (module_tree n).body) → IsAdmission (admit_text (chars bytes)) (Ok r)
+    functions_admitted r f = functions_are ∙ ap formed f

@@ -1,7 +1,7 @@
 -- What reading a content answers.
 use Rattle.std.specs.Prelude.{◌≡◌, ⊤, ℕ, List, map, codes, Result, Ok, Err}
 use Rattle.spec_first_trees.specs.Program.{Program}
-use Rattle.spec_forms.specs.Admission.{Refusal}
+use Rattle.spec_admission.specs.Admission.{Refusal}
 use Rattle.first_tree.specs.Arena.{ModuleState}
 use Rattle.first_tree.specs.Functions.{function_in}
 use Rattle.crosshair.specs.declared.admission.StageError.{StageError}
@@ -26,6 +26,12 @@ kind_name kind.Block = codes "Block"
 kind_name kind.BadExpression = codes "BadExpression"
 kind_name kind.UnknownName = codes "UnknownName"
 kind_name kind.Misplaced = codes "Misplaced"
+kind_name kind.Duplicate = codes "Duplicate"
+kind_name kind.MissingType = codes "MissingType"
+kind_name kind.UnknownType = codes "UnknownType"
+kind_name kind.ModuleStatement = codes "ModuleStatement"
+kind_name kind.TooWide = codes "TooWide"
+kind_name kind.Form = codes "Form"
 kind_name kind.NotBuilt = codes "NotBuilt"
 
 -- a module stands for the program of its functions, or the content is refused at a line

@@ -5,10 +5,15 @@ use Rattle.py_parser.specs.declared.errors.SyntaxError.{SyntaxError}
 use Rattle.py_parser.specs.declared.errors.SyntaxError.TheVariants as syntax
 use Rattle.contract_lines.specs.declared.errors.ContractError.{ContractError}
 use Rattle.contract_lines.specs.declared.errors.ContractError.TheVariants as contract
+use Rattle.spec_names.specs.declared.ProfileFault.{ProfileFault}
+use Rattle.spec_names.specs.declared.ProfileFault.TheVariants as fault
+use Rattle.py_profile.specs.declared.errors.ProfileError.{ProfileError}
+use Rattle.py_profile.specs.declared.errors.ProfileError.TheVariants as profile
 use Rattle.first_forms.specs.declared.errors.FormError.{FormError}
 use Rattle.first_forms.specs.declared.errors.FormError.TheVariants as form
 use Rattle.crosshair.specs.declared.admission.StageError.{StageError}
 use Rattle.crosshair.specs.declared.admission.StageError.TheVariants.{Refused, NoMemory}
+use Rattle.crosshair.specs.declared.refusals.RefusalKind.{RefusalKind}
 use Rattle.crosshair.specs.declared.refusals.RefusalKind.TheVariants as kind
 
 abbrev pub token_refusal : TokenError → StageError
@@ -33,6 +38,19 @@ contract_refusal (contract.BadExpression n) = Refused n kind.BadExpression
 contract_refusal (contract.UnknownName n) = Refused n kind.UnknownName
 contract_refusal (contract.Misplaced n) = Refused n kind.Misplaced
 contract_refusal contract.NoMemory = NoMemory
+
+abbrev pub profile_kind : ProfileFault → RefusalKind
+profile_kind fault.UnknownName = kind.UnknownName
+profile_kind fault.Duplicate = kind.Duplicate
+profile_kind fault.MissingType = kind.MissingType
+profile_kind fault.UnknownType = kind.UnknownType
+profile_kind fault.ModuleStatement = kind.ModuleStatement
+profile_kind fault.TooWide = kind.TooWide
+profile_kind fault.Form = kind.Form
+
+abbrev pub profile_refused : ProfileError → StageError
+profile_refused (profile.Refused n f) = Refused n (profile_kind f)
+profile_refused profile.NoMemory = NoMemory
 
 abbrev pub form_refusal : FormError → StageError
 form_refusal (form.NotBuilt n) = Refused n kind.NotBuilt

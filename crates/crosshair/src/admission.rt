@@ -1,15 +1,18 @@
 // Which contents are admitted.
 ghost use Rattle.std.specs.Prelude.{◌≡◌, ◌<◌, ◌≤◌, ◌^◌, ◌==◌, suc, length, take, chars};
 ghost use Rattle.std.specs.List.{count_by};
-ghost use Rattle.spec_forms.specs.Admission.{admit, admit_text};
+ghost use Rattle.spec_admission.specs.Admission.{admit, admit_text};
 ghost use Rattle.crosshair.specs.Answers.{IsAdmission};
+ghost use Rattle.crosshair.specs.Refusals.{profile_kind};
 
 use crate::refusals::RefusalKind;
 use contract_lines::{ContractError, conditions};
 use first_forms::{FormError, functions};
 use first_tree::Module;
 use py_parser::{SyntaxError, module};
+use py_profile::{ProfileError, check_profile};
 use py_tokens::{TokenError, scan};
+use spec_names::ProfileFault;
 use std::alloc::Global;
 use std::str;
 use thiserror::Error;
@@ -80,6 +83,35 @@ impl From<ContractError> for StageError {
     }
 }
 
+/// The refusal that a fault of the names or the statements of a module is.
+fn profile_kind(fault: ProfileFault) -> RefusalKind
+    ensures { result ≡ profile_kind fault }
+{
+    match fault {
+        ProfileFault::UnknownName => RefusalKind::UnknownName,
+        ProfileFault::Duplicate => RefusalKind::Duplicate,
+        ProfileFault::MissingType => RefusalKind::MissingType,
+        ProfileFault::UnknownType => RefusalKind::UnknownType,
+        ProfileFault::ModuleStatement => RefusalKind::ModuleStatement,
+        ProfileFault::TooWide => RefusalKind::TooWide,
+        ProfileFault::Form => RefusalKind::Form,
+    }
+}
+
+impl From<ProfileError> for StageError {
+    ghost use Rattle.std.specs.Prelude.{◌≡◌};
+    ghost use Rattle.crosshair.specs.Refusals.{profile_refused};
+
+    ghost from_gives = { λ p e. e ≡ profile_refused p };
+
+    fn from(error: ProfileError) -> Self {
+        match error {
+            ProfileError::Refused { line, fault } => StageError::Refused(line, profile_kind(fault)),
+            ProfileError::NoMemory => StageError::NoMemory,
+        }
+    }
+}
+
 impl From<FormError> for StageError {
     ghost use Rattle.std.specs.Prelude.{◌≡◌};
     ghost use Rattle.crosshair.specs.Refusals.{form_refusal};
@@ -109,8 +141,8 @@ fn line_at(content: &[u8], place: usize) -> u32
     line
 }
 
-/// Reads a text: its tokens, its blocks, its contract lines and its functions, in this order. The first that refuses
-/// decides.
+/// Reads a text: its tokens, its blocks, its contract lines, its names with its statements, and its functions, in this order.
+/// The first that refuses decides.
 fn admit_text(alloc: Global, text: &str) -> Result<Module, StageError>
     requires { length text.now < 2 ^ 31 }
     ensures { IsAdmission (admit_text (chars text.now)) result }
@@ -118,6 +150,7 @@ fn admit_text(alloc: Global, text: &str) -> Result<Module, StageError>
     let tokens = scan(alloc, text)?;
     let mut module = module(alloc, &tokens)?;
     conditions(alloc, &mut module)?;
+    check_profile(alloc, &module)?;
     Ok(functions(alloc, &module)?)
 }
 

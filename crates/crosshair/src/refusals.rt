@@ -19,6 +19,12 @@ pub enum RefusalKind {
     BadExpression,
     UnknownName,
     Misplaced,
+    Duplicate,
+    MissingType,
+    UnknownType,
+    ModuleStatement,
+    TooWide,
+    Form,
     NotBuilt,
 }
 
@@ -43,6 +49,12 @@ impl RefusalKind {
             RefusalKind::BadExpression => "BadExpression",
             RefusalKind::UnknownName => "UnknownName",
             RefusalKind::Misplaced => "Misplaced",
+            RefusalKind::Duplicate => "Duplicate",
+            RefusalKind::MissingType => "MissingType",
+            RefusalKind::UnknownType => "UnknownType",
+            RefusalKind::ModuleStatement => "ModuleStatement",
+            RefusalKind::TooWide => "TooWide",
+            RefusalKind::Form => "Form",
             RefusalKind::NotBuilt => "NotBuilt",
         }
     }

@@ -169,7 +169,7 @@ fn prints_all_results_only_where_asked(rt: HostRuntime) -> Result<(), Fail> {
 #[test]
 fn refuses_contents(rt: HostRuntime) -> Result<(), Fail> {
     let alloc = rt.alloc();
-    let table: [(&[u8], &str); 19] = [
+    let table: [(&[u8], &str); 23] = [
         (b"# \xff\n", "m.py:1: refused: NotUtf8\n"),
         (b"# \n\n\xc3(\n", "m.py:3: refused: NotUtf8\n"),
         // the encoding is tried first
@@ -206,6 +206,14 @@ fn refuses_contents(rt: HostRuntime) -> Result<(), Fail> {
         (
             b"pass\nclass C:\n    'pre: 1'\n",
             "m.py:3: refused: Misplaced\n",
+        ),
+        (b"x = 1 + 1\n", "m.py:1: refused: ModuleStatement\n"),
+        (b"X = 1\nX = 2\n", "m.py:2: refused: Duplicate\n"),
+        (b"def f(x=y):\n    pass\n", "m.py:1: refused: Form\n"),
+        // definitions are checked before the form
+        (
+            b"pass\n\ndef len(x):\n    pass\n",
+            "m.py:3: refused: Duplicate\n",
         ),
         (b"pass\n", "m.py:1: refused: NotBuilt\n"),
         (
@@ -270,7 +278,7 @@ fn checks_each_function(rt: HostRuntime) -> Result<(), Fail> {
         &["check", "m.py"],
         &mut files,
         (200, 200),
-        (2, "", "m.py:3: refused: NotBuilt\n"),
+        (2, "", "m.py:3: refused: Duplicate\n"),
     )?;
     expect_run(
         &rt,

@@ -10,8 +10,9 @@ use Rattle.spec_trees.specs.Module as block
 use Rattle.spec_trees.specs.Module.{Statement, Block}
 use Rattle.spec_first_trees.specs.Program.{Function}
 use Rattle.spec_grammar.specs.Reading.{◌>>=◌}
-use Rattle.spec_forms.specs.Names.{is_among}
-use Rattle.spec_forms.specs.Forms.{named, names_of, spelled, post_of, post_text, docstring_of, value_of, value_behind, body_of, function_of, function_at, integer_parameter}
+use Rattle.spec_contracts.specs.ContractLines.{is_among}
+use Rattle.spec_forms.specs.Forms.{named, spelled, post_of, post_text, docstring_of, value_of, value_behind, body_of, function_of, function_at, integer_parameter}
+use Rattle.spec_names.specs.Names.{names_of}
 use Rattle.py_tree.specs.declared.ids.NameId.{NameId}
 use Rattle.py_tree.specs.declared.ids.StmtId.{StmtId}
 use Rattle.py_tree.specs.declared.ids.TypeId.{TypeId}

@@ -9,7 +9,8 @@ use Rattle.spec_first_trees.specs.declared.CompareOp.{CompareOp}
 use Rattle.spec_first_trees.specs.Expr as first
 use Rattle.spec_first_trees.specs.Expr.{Expr}
 use Rattle.spec_grammar.specs.Reading.{◌>>=◌}
-use Rattle.spec_forms.specs.Names.{is_among, names_among}
+use Rattle.spec_forms.specs.Names.{names_among}
+use Rattle.spec_contracts.specs.ContractLines.{is_among}
 use Rattle.spec_forms.specs.Expressions.{binary_of, compare_of, run_as, height, size, is_small}
 use Rattle.spec_forms.specs.Forms.{named}
 use Rattle.py_tree.specs.declared.ids.ExprId as source

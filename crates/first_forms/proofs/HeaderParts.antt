@@ -12,7 +12,9 @@ use Rattle.spec_trees.specs.Stmt as simple
 use Rattle.spec_trees.specs.Stmt.{TypeExpr, Parameter}
 use Rattle.spec_trees.specs.Module as block
 use Rattle.spec_trees.specs.Module.{Block}
-use Rattle.spec_forms.specs.Names.{is_plain, is_builtin, is_among}
+use Rattle.spec_forms.specs.Names.{is_plain}
+use Rattle.spec_names.specs.Names.{is_builtin}
+use Rattle.spec_contracts.specs.ContractLines.{is_among}
 use Rattle.spec_forms.specs.Forms.{is_named, is_header, are_parameters, body_of, function_at}
 use Rattle.py_tree.specs.declared.ids.NameId.{NameId}
 use Rattle.py_tree.specs.declared.ids.TypeId.{TypeId}

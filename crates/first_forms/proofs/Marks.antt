@@ -6,7 +6,7 @@ use Rattle.std.proofs.lemmas.List.{map-append}
 use Rattle.std.specs.Str.{bytes_eq}
 use Rattle.std.proofs.lemmas.Slice.Eq.{bytes_eq-Decides}
 use Rattle.spec_first_trees.specs.Program.{Function}
-use Rattle.spec_forms.specs.Names.{is_among}
+use Rattle.spec_contracts.specs.ContractLines.{is_among}
 use Rattle.spec_forms.specs.Forms.{onto, function_at, functions_of}
 use Rattle.spec_trees.specs.Module as block
 use Rattle.py_tree.specs.declared.ids.StmtId.{StmtId}

@@ -1,7 +1,7 @@
 -- What reading the functions of a module answers.
 use Rattle.std.specs.Prelude.{◌≡◌, ⊤, ◌<◌, ℕ, Bool, List, [], ◌∷◌, length, map, Result, Ok, Err}
 use Rattle.spec_first_trees.specs.Program.{Function}
-use Rattle.spec_forms.specs.Names.{is_among}
+use Rattle.spec_contracts.specs.ContractLines.{is_among}
 use Rattle.spec_forms.specs.Forms.{onto}
 use Rattle.py_tree.specs.Arena.{State}
 use Rattle.py_tree.specs.Names.{text_of}

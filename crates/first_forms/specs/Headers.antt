@@ -1,8 +1,10 @@
 -- The headers of functions, in the parts that single functions read.
 use Rattle.std.specs.Prelude.{◌≡◌, ◌<◌, ⊤, false, true, ℕ, Bool, ◌&&◌, not, List, [], ◌∷◌, length, map, Option, Result, Ok, Err, codes}
 use Rattle.spec_trees.specs.Stmt.{TypeExpr, Parameter}
-use Rattle.spec_forms.specs.Names.{is_plain, is_builtin}
-use Rattle.spec_forms.specs.Forms.{are_parameters, integer_parameter, is_named, names_of}
+use Rattle.spec_forms.specs.Names.{is_plain}
+use Rattle.spec_names.specs.Names.{is_builtin}
+use Rattle.spec_forms.specs.Forms.{are_parameters, integer_parameter, is_named}
+use Rattle.spec_names.specs.Names.{names_of}
 use Rattle.py_tree.specs.declared.stmts.ParameterNode.{ParameterNode}
 use Rattle.py_tree.specs.State.{State, shown_type}
 use Rattle.py_tree.specs.Names.{text_of}

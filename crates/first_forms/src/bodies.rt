@@ -1,7 +1,8 @@
 ghost use Rattle.std.specs.Prelude.{◌≡◌, ◌++◌, ◌+◌, ◌<◌, ◌∷◌, [], ◌^◌, ℕ, List, length, ◌&&◌, nat_lt, IfSome};
 ghost use Rattle.std.specs.Option.{option_map};
 ghost use Rattle.spec_trees.specs.Stmt.{Parameter};
-ghost use Rattle.spec_forms.specs.Forms.{body_of, docstring_of, names_of, post_of, spelled, value_behind, value_of};
+ghost use Rattle.spec_forms.specs.Forms.{body_of, docstring_of, post_of, spelled, value_behind, value_of};
+ghost use Rattle.spec_names.specs.Names.{names_of};
 ghost use Rattle.spec_forms.specs.Names.{returned_name};
 ghost use Rattle.py_tree.specs.Arena.{shown_stmt};
 ghost use Rattle.py_tree.specs.Exprs.{part_tree};
@@ -14,10 +15,10 @@ ghost use Rattle.first_forms.specs.Scopes.{parameter_names};
 
 use crate::copying::copy_expression;
 use crate::errors::{FormError, Unformed, error_of};
-use crate::lines::line_of;
 use crate::names::Scope;
 use first_tree as first;
 use first_tree::Parameters;
+use module_members::line_of;
 use py_parser::{SyntaxError, expression};
 use py_tree::{ExprId, ExprNode, Module, StmtId, StmtNode, StrPart};
 use std::alloc::Global;

@@ -8,8 +8,9 @@ ghost use Rattle.first_forms.specs.Headers.{GivesParameters, IsParameterThere, i
 
 use crate::copying::copy_name;
 use crate::errors::Unformed;
-use crate::names::{is_builtin, is_plain, is_text};
+use crate::names::{is_plain, is_text};
 use first_tree::Parameters;
+use module_members::is_builtin;
 use py_tree::{Module, NameId, ParameterNode, TypeId, TypeNode};
 use std::alloc::Global;
 
@@ -106,6 +107,9 @@ pub(crate) fn is_function(module: &Module, taken: bool, name: NameId, kind: Opti
     requires kind { IsTypeBelow (length «module».now.types) kind }
     ensures { result ≡ is_function taken (text_of «module».now.names name) (optional_type (shown_type «module».now) kind) }
 {
-    let text = module.name_text(name).as_bytes();
-    is_plain(text) && !is_builtin(text) && !taken && is_named(module, kind, &["int", "bool"])
+    let text = module.name_text(name);
+    is_plain(text.as_bytes())
+        && !is_builtin(text)
+        && !taken
+        && is_named(module, kind, &["int", "bool"])
 }

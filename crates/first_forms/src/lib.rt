@@ -8,7 +8,6 @@ mod bodies;
 mod copying;
 mod errors;
 mod headers;
-mod lines;
 mod names;
 mod reading;
 #[cfg(test)]

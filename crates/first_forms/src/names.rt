@@ -1,11 +1,11 @@
 ghost use Rattle.std.specs.Prelude.{◌≡◌, ◌||◌};
 ghost use Rattle.std.specs.List.{list_all, list_any};
 ghost use Rattle.std.specs.Str.{bytes_eq};
-ghost use Rattle.spec_forms.specs.Names.{is_among, is_builtin, is_digit, is_lower, is_plain};
+ghost use Rattle.spec_forms.specs.Names.{is_digit, is_lower, is_plain};
+ghost use Rattle.spec_contracts.specs.ContractLines.{is_among};
 ghost use Rattle.first_forms.specs.Scopes.{names_in, second_names};
 
 use first_tree::Parameters;
-use spec_forms::BUILTINS;
 use xh_outside::Bytes;
 
 // The name of the returned value in a post line (PEP 316).
@@ -47,13 +47,6 @@ pub(crate) fn is_text(texts: &[&str], name: &[u8]) -> bool
         }
     }
     false
-}
-
-/// Whether a name is that of a built-in function.
-pub(crate) fn is_builtin(name: &[u8]) -> bool
-    ensures { result ≡ is_builtin name.now }
-{
-    is_text(&BUILTINS, name)
 }
 
 fn is_lower(c: u8) -> bool

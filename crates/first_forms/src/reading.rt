@@ -8,9 +8,9 @@ use crate::bodies::read_body;
 use crate::copying::copy_name;
 use crate::errors::{FormError, error_of};
 use crate::headers::{is_function, parameters_of};
-use crate::lines::line_of;
 use first_tree as first;
 use first_tree::FnNode;
+use module_members::line_of;
 use py_tree::{Module, NameId, StmtId, StmtNode};
 use std::alloc::Global;
 

@@ -8,8 +8,12 @@ use Rattle.spec_trees.specs.Module.{Statement, Block, no_statement, statement}
 use Rattle.spec_first_trees.specs.Expr.{Expr}
 use Rattle.spec_first_trees.specs.Program.{Function}
 use Rattle.spec_grammar.specs.Reading.{given}
-use Rattle.spec_forms.specs.Names.{is_plain, is_builtin, is_among}
-use Rattle.spec_forms.specs.Forms.{line_of, is_header, are_parameters, is_named, names_of, function_of, behind, value_behind, value_of, docstring_of, body_of, function_at, onto, before, functions_of, are_named_apart}
+use Rattle.spec_forms.specs.Names.{is_plain}
+use Rattle.spec_names.specs.Names.{is_builtin}
+use Rattle.spec_contracts.specs.ContractLines.{is_among}
+use Rattle.spec_forms.specs.Forms.{is_header, are_parameters, is_named, function_of, behind, value_behind, value_of, docstring_of, body_of, function_at, onto, before, functions_of, are_named_apart}
+use Rattle.spec_names.specs.Lines.{line_of}
+use Rattle.spec_names.specs.Names.{names_of}
 
 -- a body gives a function of the name of its header
 behind_named : (f g : Function) (b : Block) → behind f b ≡ Ok g → g.name ≡ f.name

@@ -17,20 +17,13 @@ use Rattle.spec_first_trees.specs.Program as program
 use Rattle.spec_first_trees.specs.Program.{Function, Program}
 use Rattle.spec_grammar.specs.Reading.{◌>>=◌, given}
 use Rattle.spec_syntax.specs.Phases.{Misfit}
-use Rattle.spec_syntax.specs.Placement.{number_of_simple}
 use Rattle.spec_syntax.specs.Texts.{parsed_expression}
+use Rattle.spec_names.specs.Names.{names_of}
+use Rattle.spec_names.specs.Lines.{line_of}
 use Rattle.spec_forms.specs.Expressions.{expression_of}
-use Rattle.spec_forms.specs.Names.{returned_name, is_plain, is_builtin, is_among, names_among}
-
--- the line of a statement
-abbrev pub line_of : Statement → ℕ
-line_of (block.simple x) = number_of_simple x
-line_of (block.def n x ps r b) = n
-line_of (block.class n x b) = n
-line_of (block.if n c b bs d) = n
-line_of (block.while n c b d) = n
-line_of (block.for n x e b d) = n
-line_of (block.try n b hs d) = n
+use Rattle.spec_forms.specs.Names.{returned_name, is_plain, names_among}
+use Rattle.spec_names.specs.Names.{is_builtin}
+use Rattle.spec_contracts.specs.ContractLines.{is_among}
 
 -- ---- the header
 
@@ -108,10 +101,6 @@ function_of n x ps post value = record {
 abbrev pub behind : Function → Block → Result Function ℕ
 behind f no_statement = Ok f
 behind f (statement s b) = Err (line_of s)
-
--- the names that the value of a function may have
-abbrev pub names_of : List Parameter → List (List ℕ)
-names_of ps = map (λ (p : Parameter). p.name) ps
 
 -- the function that what stands behind the docstring of a body gives; a body that ends early shows at its header
 abbrev pub value_behind : ℕ → List ℕ → List Parameter → ℕ × Expr → Block → Result Function ℕ

@@ -1,4 +1,3 @@
 pub mod Expressions
 pub mod Names
 pub mod Forms
-pub mod Admission

@@ -1,9 +1,8 @@
 -- The names of functions, parameters and values that are run.
 use Rattle.std.specs.Prelude.{ℕ, Bool, true, false, ◌&&◌, ◌||◌, nat_le, List, [], ◌∷◌, codes}
-use Rattle.std.specs.List.{list_all, list_any}
-use Rattle.std.specs.Str.{bytes_eq}
+use Rattle.std.specs.List.{list_all}
 use Rattle.spec_first_trees.specs.Expr.{Expr, name, integer, binary, compare, group}
-use Rattle.spec_forms.specs.declared.TheConstants.{BUILTINS}
+use Rattle.spec_contracts.specs.ContractLines.{is_among}
 
 -- the name of the returned value in a post line
 abbrev pub returned_name : List ℕ
@@ -23,12 +22,6 @@ is_digit c = is_between 48 57 c
 abbrev pub is_plain : List ℕ → Bool
 is_plain [] = false
 is_plain (c ∷ s) = is_lower c && list_all (λ d. is_lower d || is_digit d) s
-
-abbrev pub is_builtin : List ℕ → Bool
-is_builtin x = list_any (λ k. bytes_eq k.now x) BUILTINS
-
-abbrev pub is_among : List (List ℕ) → List ℕ → Bool
-is_among names x = list_any (bytes_eq x) names
 
 -- each name of the expression is one of these
 abbrev pub names_among : List (List ℕ) → Expr → Bool

@@ -6,26 +6,6 @@ ghost use Rattle.spec_trees.specs.Module.{Block};
 ghost use Rattle.spec_first_trees.specs.Program.{Function};
 ghost use Rattle.spec_forms.specs.Forms.{functions_of, are_named_apart};
 
-/// The built-in functions (Python 3.12 library reference, "Built-in Functions") that no function may be named as.
-pub const BUILTINS: [&str; 16] = [
-    "abs",
-    "all",
-    "any",
-    "bool",
-    "chr",
-    "dict",
-    "int",
-    "isinstance",
-    "len",
-    "list",
-    "max",
-    "min",
-    "ord",
-    "range",
-    "str",
-    "sum",
-];
-
 /// No two functions of a module that are run have one name.
 pub fn functions_are_named_apart()
     ensures { (b : Block) (fs : List Function) → functions_of [] b ≡ Ok fs → are_named_apart [] fs ≡ true }

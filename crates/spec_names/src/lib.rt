@@ -1,6 +1,15 @@
 //! The names of a module and the statements that it admits, as definitions: why a module is refused whose lines are right.
 #![tactic(auto)]
 
+ghost use Rattle.std.specs.Prelude.{◌≡◌, List, Some};
+ghost use Rattle.spec_refusals.specs.Soonest.{AreLater};
+ghost use Rattle.spec_names.specs.declared.Refusal.{Refusal};
+ghost use Rattle.spec_names.specs.Refusals.{first_refusal, line_in, number_in};
+
+mod builtins;
+
+pub use builtins::{BUILTINS, Builtin};
+
 /// Why a module is refused for its names or for what its statements are. Of two causes at one line the one that stands
 /// first here is told.
 #[derive(Clone, Copy, Debug, PartialEq, Eq)]
@@ -28,3 +37,8 @@ pub struct Refusal {
     pub line: u32,
     pub fault: ProfileFault,
 }
+
+/// The first refusal is the soonest of all.
+pub fn the_first_refusal_is_the_soonest()
+    ensures { (rs : List Refusal) (r : Refusal) → first_refusal rs ≡ Some r → AreLater line_in number_in r rs }
+{}

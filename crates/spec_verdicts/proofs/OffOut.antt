@@ -5,7 +5,7 @@ use Rattle.xh_outside.specs.declared.errors.ReadError.{ReadError}
 use Rattle.xh_outside.specs.declared.errors.ReadError.TheVariants.{Failed, TooLong, NoMemory}
 use Rattle.spec_first_trees.specs.Bounds.{Bounds}
 use Rattle.spec_first_trees.specs.Program.{Program}
-use Rattle.spec_forms.specs.Admission.{Refusal, admit}
+use Rattle.spec_admission.specs.Admission.{Refusal, admit}
 use Rattle.spec_verdicts.specs.Report.{Total, nothing, reported, off_out, join, report_of, report_of_admission, entry_of, is_failed, after, targets_total}
 use Rattle.spec_verdicts.specs.declared.TheConstants.{READ_LIMIT}
 

@@ -6,7 +6,7 @@ use Rattle.xh_outside.specs.Reading.{content_of, read_within, is_due, read_of, n
 use Rattle.xh_outside.specs.declared.errors.ReadError.TheVariants.{Failed, TooLong}
 use Rattle.spec_first_trees.specs.Bounds.{Bounds}
 use Rattle.spec_first_trees.specs.Program.{Program}
-use Rattle.spec_forms.specs.Admission.{Refusal, admit}
+use Rattle.spec_admission.specs.Admission.{Refusal, admit}
 use Rattle.spec_verdicts.specs.Report.{Total, nothing, has_error, report_of, report_of_admission, entry_of, is_failed, targets_total}
 use Rattle.spec_verdicts.specs.Statuses.{IsAdmitted, Passes, Fails, IsRefused, EachTarget, SomeTarget, SomeReadFails}
 use Rattle.spec_verdicts.specs.declared.TheConstants.{READ_LIMIT}

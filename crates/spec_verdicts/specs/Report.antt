@@ -7,7 +7,7 @@ use Rattle.xh_outside.specs.declared.errors.ReadError.TheVariants.{Failed, TooLo
 use Rattle.xh_outside.specs.Reading.{read_of, next_left}
 use Rattle.spec_first_trees.specs.Bounds.{Bounds}
 use Rattle.spec_first_trees.specs.Program.{Program, Function, Condition, Raises, Post}
-use Rattle.spec_forms.specs.Admission.{Refusal, admit}
+use Rattle.spec_admission.specs.Admission.{Refusal, admit}
 use Rattle.spec_verdicts.specs.Verdicts.{Verdict, Error, NotConfirmed, Unmet, Confirmed, verdict}
 use Rattle.spec_verdicts.specs.Lines.{verdict_line, refusal_line, fault_line, usage}
 use Rattle.spec_verdicts.specs.Settings.{Settings, settings}

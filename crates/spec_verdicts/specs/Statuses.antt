@@ -4,7 +4,7 @@ use Rattle.std.specs.List.{list_any}
 use Rattle.xh_outside.specs.Reading.{content_of, next_left}
 use Rattle.spec_first_trees.specs.Bounds.{Bounds}
 use Rattle.spec_first_trees.specs.Program.{Program}
-use Rattle.spec_forms.specs.Admission.{Refusal, admit}
+use Rattle.spec_admission.specs.Admission.{Refusal, admit}
 use Rattle.spec_verdicts.specs.Report.{has_error}
 use Rattle.spec_verdicts.specs.declared.TheConstants.{READ_LIMIT}
 

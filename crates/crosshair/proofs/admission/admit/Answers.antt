@@ -1,7 +1,7 @@
 use Rattle.std.proofs.Common.{◌==◌, ℕ, suc, take, ap, sym, ◌∙◌}
 use Rattle.std.specs.Prelude.{codes}
 use Rattle.std.specs.List.{count_by}
-use Rattle.spec_forms.specs.Admission.{refused}
+use Rattle.spec_admission.specs.Admission.{refused}
 use Rattle.crosshair.proofs.Admitting.{admitted_text, not_utf8}
 use Rattle.crosshair.proofs.admission.admit.Goals as goal
 

@@ -1,5 +1,5 @@
 use Rattle.std.proofs.Common.{arith, ap, sym, ◌∙◌}
-use Rattle.spec_forms.specs.Names.{is_among}
+use Rattle.spec_contracts.specs.ContractLines.{is_among}
 use Rattle.first_forms.specs.Scopes.{names_in}
 use Rattle.first_forms.proofs.Fitting.{copied_added, name_fits}
 use Rattle.first_forms.proofs.copying.add_name.Goals as goal

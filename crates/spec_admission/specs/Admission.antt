@@ -1,5 +1,5 @@
--- Which contents are admitted, and as what program. The phases are encoding, tokens, load, lines, nesting, blocks, contract lines and the form that is run, and the first that refuses decides.
-use Rattle.std.specs.Prelude.{ℕ, suc, ◌==◌, List, [], take, Result, Ok, Err, codes, if◌then◌else◌}
+-- Which contents are admitted, and as what program. The phases are encoding, tokens, load, lines, nesting, blocks, contract lines, names with the profile, and the form that is run, and the first that refuses decides.
+use Rattle.std.specs.Prelude.{ℕ, suc, ◌==◌, List, [], take, Option, Some, None, Result, Ok, Err, codes, if◌then◌else◌}
 use Rattle.std.specs.List.{count_by}
 use Rattle.std.specs.Str.{is_utf8, chars}
 use Rattle.std.specs.Str.Lossy.{utf8_valid_len}
@@ -17,6 +17,10 @@ use Rattle.spec_contracts.specs.declared.ContractFault.{ContractFault}
 use Rattle.spec_contracts.specs.declared.ContractFault.TheVariants as contract
 use Rattle.spec_contracts.specs.declared.Refusal as contracts
 use Rattle.spec_contracts.specs.ContractLines.{ContractLine, contracts_of}
+use Rattle.spec_names.specs.declared.ProfileFault.{ProfileFault}
+use Rattle.spec_names.specs.declared.ProfileFault.TheVariants as profile
+use Rattle.spec_names.specs.declared.Refusal as names
+use Rattle.spec_names.specs.Profile.{profile_refusal}
 use Rattle.spec_forms.specs.Forms.{functions_of}
 
 -- why a content is not admitted: the name of the refusal, and the line at which it shows
@@ -46,13 +50,27 @@ contract_fault_name contract.BadExpression = codes "BadExpression"
 contract_fault_name contract.UnknownName = codes "UnknownName"
 contract_fault_name contract.Misplaced = codes "Misplaced"
 
+abbrev pub profile_fault_name : ProfileFault → List ℕ
+profile_fault_name profile.UnknownName = codes "UnknownName"
+profile_fault_name profile.Duplicate = codes "Duplicate"
+profile_fault_name profile.MissingType = codes "MissingType"
+profile_fault_name profile.UnknownType = codes "UnknownType"
+profile_fault_name profile.ModuleStatement = codes "ModuleStatement"
+profile_fault_name profile.TooWide = codes "TooWide"
+profile_fault_name profile.Form = codes "Form"
+
 abbrev pub formed : Result (List Function) ℕ → Result Program Refusal
 formed (Ok fs) = Ok (record { functions = fs })
 formed (Err n) = refused n (codes "NotBuilt")
 
+-- the program of a block whose contract lines are right
+abbrev pub as_profile : Block → Option names.Refusal → Result Program Refusal
+as_profile b None = formed (functions_of [] b)
+as_profile b (Some r) = refused r.line (profile_fault_name r.fault)
+
 -- the program of a block whose contract lines are read
 abbrev pub as_contracts : Block → Result (List ContractLine) contracts.Refusal → Result Program Refusal
-as_contracts b (Ok ls) = formed (functions_of [] b)
+as_contracts b (Ok ls) = as_profile b (profile_refusal b)
 as_contracts b (Err r) = refused r.line (contract_fault_name r.fault)
 
 abbrev pub as_block : Result Block Misfit → Result Program Refusal

@@ -1,0 +1,5 @@
+pub mod Below
+pub mod Telling
+pub mod Defaults
+pub mod Listed
+pub mod Walking

@@ -1,0 +1,8 @@
+use Rattle.std.proofs.Common.{◌≡◌, drop, map}
+use Rattle.std.specs.List.{list_any}
+use Rattle.spec_names.specs.Headers.{is_private_method}
+use Rattle.py_tree.specs.Names.{text_of}
+use Rattle.py_profile.proofs.headers.are_private_methods.Given as goal
+
+abbrev pub invariant-loop-name : goal.invariant-loop-name
+invariant-loop-name l = list_any is_private_method (map (text_of l.module.names) l.names) ≡ list_any is_private_method (map (text_of l.module.names) (drop l.name-index l.names))

@@ -1,0 +1,2 @@
+//! Which contents are admitted, and why the others are refused.
+#![tactic(auto)]
