@@ -1,0 +1,4 @@
+pub mod Classes
+pub mod Types
+pub mod Needs
+pub mod Widths

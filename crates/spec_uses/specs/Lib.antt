@@ -1,0 +1,4 @@
+pub mod Meanings
+pub mod Expressions
+pub mod Statements
+pub mod Functions

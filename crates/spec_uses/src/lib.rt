@@ -1,0 +1,22 @@
+//! What the names in bodies and contract lines stand for, and which uses of them a module does not admit, as definitions.
+#![tactic(auto)]
+
+use spec_names::Builtin;
+
+/// What a name stands for.
+#[derive(Clone, Copy, Debug, PartialEq, Eq)]
+pub enum Meaning {
+    /// A parameter, a target, or a variable of a loop or a comprehension.
+    Local,
+    /// The returned value, in a post line.
+    Result,
+    /// The arguments before the call, in a post line.
+    Old,
+    Constant,
+    Function,
+    Class,
+    Imported,
+    BuiltIn(Builtin),
+    Exception,
+    Unknown,
+}
