@@ -1,5 +1,5 @@
 -- What a content is admitted as, from what its phases answer.
-use Rattle.std.proofs.Common.{◌≡◌, ℕ, Bool, true, false, List, [], Result, Ok, Err, refl, sym, ap, ◌∙◌, if◌then◌else◌}
+use Rattle.std.proofs.Common.{◌≡◌, ℕ, Bool, true, false, List, [], map, Result, Ok, Err, refl, sym, ap, ◌∙◌, if◌then◌else◌}
 use Rattle.std.specs.Prelude.{⊤, IsUtf8, chars, codes}
 use Rattle.std.specs.Str.{is_utf8}
 use Rattle.std.proofs.lemmas.Str.{IsUtf8-from_is_utf8, is_utf8-from_IsUtf8}
@@ -25,10 +25,10 @@ use Rattle.py_parser.specs.Parsed.{GivesModule}
 use Rattle.contract_lines.specs.declared.contracts.ContractLine.{ContractLine}
 use Rattle.contract_lines.specs.declared.errors.ContractError.{ContractError}
 use Rattle.contract_lines.specs.declared.errors.ContractError.TheVariants as contract
-use Rattle.contract_lines.specs.Given.{GivesContracts}
+use Rattle.contract_lines.specs.Given.{GivesContracts, line_in}
 use Rattle.spec_names.specs.declared.ProfileFault.{ProfileFault}
 use Rattle.spec_names.specs.declared.ProfileFault.TheVariants as fault
-use Rattle.spec_names.specs.Profile.{profile_refusal}
+use Rattle.spec_profile.specs.Profile.{profile_refusal}
 use Rattle.py_profile.specs.Checking.{Answers}
 use Rattle.py_profile.specs.declared.errors.ProfileError.{ProfileError}
 use Rattle.py_profile.specs.declared.errors.ProfileError.TheVariants as profile
@@ -110,14 +110,14 @@ kind_is fault.Form = refl
 
 -- the functions of a module whose contract lines are read, and which is another state behind them
 module _ (bytes : List ℕ) (s : Scan) (m n : State) (ls : List ContractLine) (h : IsScan (chars bytes) (Ok s)) (g : GivesModule (Ok m) (parsed (word_lines s))) (c : GivesContracts n (Ok ls) (contracts_of (module_tree m).body)) (t : module_tree n ≡ module_tree m) where
-  profile_is : admit_text (chars bytes) ≡ as_profile (module_tree n).body (profile_refusal (module_tree n).body)
-  profile_is = block_is bytes s m h g ∙ ap (as_contracts (module_tree m).body) c.1 ∙ ap (λ (u : tree.Module). as_profile u.body (profile_refusal u.body)) (sym t)
+  profile_is : admit_text (chars bytes) ≡ as_profile (module_tree n).body (profile_refusal (module_tree n).body (map (line_in n) ls))
+  profile_is = block_is bytes s m h g ∙ ap (as_contracts (module_tree m).body) c.1 ∙ ap (λ (u : tree.Module). as_profile u.body (profile_refusal u.body (map (line_in n) ls))) (sym t)
 
-  pub names_refused : (e : ProfileError) → Answers (Err e) (profile_refusal (module_tree n).body) → IsAdmission (admit_text (chars bytes)) (Err (profile_refused e))
+  pub names_refused : (e : ProfileError) → Answers (Err e) (profile_refusal (module_tree n).body (map (line_in n) ls)) → IsAdmission (admit_text (chars bytes)) (Err (profile_refused e))
   names_refused (profile.Refused k f) p = profile_is ∙ ap (as_profile (module_tree n).body) p ∙ ap (refused k) (kind_is f)
   names_refused profile.NoMemory p = tt
 
-  module _ (u : ⊤) (p : Answers (Ok u) (profile_refusal (module_tree n).body)) where
+  module _ (u : ⊤) (p : Answers (Ok u) (profile_refusal (module_tree n).body (map (line_in n) ls))) where
     functions_are : admit_text (chars bytes) ≡ formed (functions_of [] (module_tree n).body)
     functions_are = profile_is ∙ ap (as_profile (module_tree n).body) p
 

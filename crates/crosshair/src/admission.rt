@@ -149,8 +149,8 @@ fn admit_text(alloc: Global, text: &str) -> Result<Module, StageError>
 {
     let tokens = scan(alloc, text)?;
     let mut module = module(alloc, &tokens)?;
-    conditions(alloc, &mut module)?;
-    check_profile(alloc, &module)?;
+    let contracts = conditions(alloc, &mut module)?;
+    check_profile(alloc, &module, &contracts)?;
     Ok(functions(alloc, &module)?)
 }
 

@@ -169,7 +169,7 @@ fn prints_all_results_only_where_asked(rt: HostRuntime) -> Result<(), Fail> {
 #[test]
 fn refuses_contents(rt: HostRuntime) -> Result<(), Fail> {
     let alloc = rt.alloc();
-    let table: [(&[u8], &str); 23] = [
+    let table: [(&[u8], &str); 26] = [
         (b"# \xff\n", "m.py:1: refused: NotUtf8\n"),
         (b"# \n\n\xc3(\n", "m.py:3: refused: NotUtf8\n"),
         // the encoding is tried first
@@ -216,8 +216,21 @@ fn refuses_contents(rt: HostRuntime) -> Result<(), Fail> {
             "m.py:3: refused: Duplicate\n",
         ),
         (b"pass\n", "m.py:1: refused: NotBuilt\n"),
+        // uses of names are checked before the form, in bodies and in contract lines
+        (
+            b"pass\n\ndef f(x):\n    return y\n",
+            "m.py:4: refused: UnknownName\n",
+        ),
         (
             b"def f(x: int) -> int:\n    'post: y'\n    return 1\n",
+            "m.py:2: refused: UnknownName\n",
+        ),
+        (
+            b"def f(x: int) -> int:\n    'post: 1'\n    return len\n",
+            "m.py:3: refused: Form\n",
+        ),
+        (
+            b"def f(x: int) -> int:\n    'post: None'\n    return 1\n",
             "m.py:2: refused: NotBuilt\n",
         ),
     ];

@@ -2,8 +2,7 @@ ghost use Rattle.std.specs.Prelude.{◌≡◌};
 ghost use Rattle.std.specs.List.{list_any};
 ghost use Rattle.std.specs.Str.{bytes_eq};
 ghost use Rattle.spec_contracts.specs.ContractLines.{is_exception};
-ghost use Rattle.spec_names.specs.Names.{is_builtin};
-ghost use Rattle.spec_names.specs.Names.{is_given};
+ghost use Rattle.spec_names.specs.Names.{is_builtin, is_given, is_private};
 
 use spec_contracts::EXCEPTION_CLASSES;
 use spec_names::{BUILTINS, Builtin};
@@ -51,4 +50,11 @@ pub fn is_given(name: &str) -> bool
     ensures { result ≡ is_given name.now }
 {
     is_builtin(name) || is_exception(name)
+}
+
+/// Whether a name begins with two underscores.
+pub fn is_private(name: &str) -> bool
+    ensures { result ≡ is_private name.now }
+{
+    name.starts_with("__")
 }

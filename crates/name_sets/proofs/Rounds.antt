@@ -1,5 +1,5 @@
 -- The rounds in which names were added, and the set that they tell.
-use Rattle.std.proofs.Common.{◌≡◌, ℕ, zero, suc, ◌+◌, ◌≤◌, ◌==◌, Bool, true, false, List, [], ◌∷◌, length, map, replicate, refl, ap, arith, slice_set}
+use Rattle.std.proofs.Common.{◌≡◌, ℕ, zero, suc, ◌+◌, ◌<◌, ◌≤◌, ◌==◌, Bool, true, false, List, [], ◌∷◌, length, map, replicate, refl, ap, arith, slice_set}
 use Rattle.std.proofs.lemmas.Bool.Decides.{nat_tests}
 use Rattle.std.specs.List.{All}
 
@@ -28,3 +28,12 @@ pub one_more : (rounds : List ℕ) (i round : ℕ) → told round (slice_set rou
 one_more [] i round = refl
 one_more (r ∷ rs) zero round = rw (is_now round) refl
 one_more (r ∷ rs) (suc i) round = ap (λ (v : List Bool). (r == round) ∷ v) (one_more rs i round)
+
+not_now : (round : ℕ) → 0 < round → (0 == round) ≡ false
+not_now round lt = grind (arith, nat_tests)
+
+-- a name that was added in no round is left out
+pub one_less : (rounds : List ℕ) (i round : ℕ) → 0 < round → told round (slice_set rounds i 0) ≡ slice_set (told round rounds) i false
+one_less [] i round lt = refl
+one_less (r ∷ rs) zero round lt = rw (not_now round lt) refl
+one_less (r ∷ rs) (suc i) round lt = ap (λ (v : List Bool). (r == round) ∷ v) (one_less rs i round lt)

@@ -1,4 +1,4 @@
-ghost use Rattle.std.specs.Prelude.{◌≡◌, ◌<◌, true, false, length, replicate, slice_get, slice_set, Some, IfOk, OnOk};
+ghost use Rattle.std.specs.Prelude.{◌≡◌, ◌<◌, true, false, length, replicate, slice_get, slice_set, Some, IfOk, OnErr, OnOk};
 
 use py_tree::NameId;
 use std::alloc::Global;
@@ -9,21 +9,21 @@ use xh_outside::NoMemory;
 #[derive(Drop)]
 pub struct NameSet {
     alloc: Global,
-    // the round in which each name was last added
+    // the round in which each name was last added, and 0 where it was left out since
     rounds: Vec<u64>,
     // the round that counts, which begins where the set is cleared
     round: u64,
 }
 
 impl Model for NameSet {
-    ghost use Rattle.std.specs.Prelude.{List, Bool, map, ◌==◌, ◌≤◌};
+    ghost use Rattle.std.specs.Prelude.{List, Bool, map, ◌==◌, ◌≤◌, ◌<◌};
     ghost use Rattle.std.specs.List.{All};
 
     ghost Value = { List Bool };
 
     ghost view = { λ s. map (λ r. r == s.round) s.rounds.items };
 
-    ghost invariant = { λ s. All (λ r. r ≤ s.round) s.rounds.items };
+    ghost invariant = { λ s. (0 < s.round) × All (λ r. r ≤ s.round) s.rounds.items };
 }
 
 impl NameSet {
@@ -38,9 +38,11 @@ impl NameSet {
         })
     }
 
-    /// Leaves no name in the set. There is no error but want of memory, which comes once in 2^64 calls at most.
+    /// Leaves no name in the set. There is no error but want of memory, which comes once in 2^64 calls at most and leaves
+    /// the set as it was.
     pub fn clear(&mut self) -> Result<(), NoMemory>
-        ensures { OnOk result (self.new ≡ replicate (length self.old) false) }
+        ensures cleared { OnOk result (self.new ≡ replicate (length self.old) false) }
+        ensures refused { OnErr result (self.new ≡ self.old) }
     {
         match self.round.checked_add(1) {
             Some(round) => self.round = round,
@@ -66,5 +68,17 @@ impl NameSet {
         ensures { self.new ≡ slice_set self.old name.index true }
     {
         self.rounds[name.index] = self.round;
+    }
+
+    /// Adds a name, or leaves it out.
+    pub fn set(&mut self, name: NameId, is_in: bool)
+        requires { name.index < length self.old }
+        ensures { self.new ≡ slice_set self.old name.index is_in }
+    {
+        if is_in {
+            self.insert(name);
+        } else {
+            self.rounds[name.index] = 0;
+        }
     }
 }

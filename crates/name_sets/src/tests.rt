@@ -14,5 +14,9 @@ fn a_set_has_the_names_that_were_added_since_it_was_cleared(rt: HostRuntime) -> 
     assert!(rt; !names.contains(second));
     names.insert(first);
     assert!(rt; names.contains(first));
+    names.set(first, false);
+    assert!(rt; !names.contains(first));
+    names.set(second, true);
+    assert!(rt; names.contains(second));
     Ok(())
 }

@@ -13,8 +13,8 @@ use Rattle.py_tree.specs.declared.stmts.ParameterNode.{ParameterNode}
 use Rattle.py_tree.specs.Arena.{State}
 use Rattle.py_tree.specs.Exprs.{IsBoundBelow}
 use Rattle.py_tree.specs.Stmts.{AreParametersThere, optional_expr, parameters_tree}
-use Rattle.py_profile.specs.Telling.{Tells}
-use Rattle.py_profile.proofs.Telling.{tells_none, tells_then}
+use Rattle.told_refusals.specs.Telling.{Tells}
+use Rattle.told_refusals.proofs.Telling.{tells_none, tells_then}
 
 -- a parameter, and those behind it
 pub parameters_from : (ps : List ParameterNode) (i : ℕ) (d : ParameterNode) → i < length ps → drop i ps ≡ get_or ps i d ∷ drop (i + 1) ps

@@ -3,3 +3,4 @@ pub mod Telling
 pub mod Defaults
 pub mod Listed
 pub mod Walking
+pub mod Owned

@@ -5,23 +5,13 @@ use Rattle.std.proofs.lemmas.List.{append_assoc}
 use Rattle.std.proofs.lemmas.Option.{gets}
 use Rattle.spec_trees.specs.Module as tree
 use Rattle.spec_trees.specs.Module.{Statement, Block}
-use Rattle.spec_refusals.specs.Soonest.{with_last}
-use Rattle.spec_refusals.proofs.Laws.{soonest_with_last}
 use Rattle.spec_names.specs.declared.Refusal.{Refusal}
-use Rattle.spec_names.specs.Refusals.{first_refusal, line_in, number_in}
+use Rattle.spec_names.specs.Refusals.{first_refusal}
 use Rattle.spec_names.specs.Members.{each}
 use Rattle.py_tree.specs.declared.ids.StmtId.{StmtId}
 use Rattle.py_tree.specs.Stmts.{block_tree}
-use Rattle.py_profile.specs.Telling.{Tells}
-
-pub tells_none : (t : Option Refusal) → Tells t t []
-tells_none t = λ rs e. e ∙ ap first_refusal (sym (append-nil rs))
-
-pub tells_one : (t : Option Refusal) (r : Refusal) → Tells t (with_last line_in number_in t r) (r ∷ [])
-tells_one t r = λ rs e. ap (λ (o : Option Refusal). with_last line_in number_in o r) e ∙ sym (soonest_with_last line_in number_in rs r)
-
-pub tells_then : (a b c : Option Refusal) (xs ys : List Refusal) → Tells a b xs → Tells b c ys → Tells a c (xs ++ ys)
-tells_then a b c xs ys f g = λ rs e. g (rs ++ xs) (f rs e) ∙ ap first_refusal (append_assoc rs xs ys)
+use Rattle.told_refusals.specs.Telling.{Tells}
+use Rattle.told_refusals.proofs.Telling.{tells_none, tells_then}
 
 -- ---- the statements of a block, one after the other
 

@@ -1,5 +1,5 @@
 -- What is told of the names that a block defines, one statement after the other.
-use Rattle.std.proofs.Common.{◌≡◌, ℕ, ◌+◌, ◌≤◌, Bool, List, [], ◌++◌, length, drop, append-nil, slice_get, Option, Some, None, refl, sym, ap, ◌∙◌}
+use Rattle.std.proofs.Common.{◌≡◌, ℕ, ◌+◌, ◌≤◌, Bool, List, [], ◌++◌, length, drop, append-nil, slice_get, Option, Some, refl, sym, ap, ◌∙◌}
 use Rattle.std.specs.List.{list_any}
 use Rattle.std.proofs.lemmas.List.{append_assoc}
 use Rattle.spec_trees.specs.Module as tree
@@ -15,12 +15,13 @@ use Rattle.spec_names.specs.Members.{member_of, method_of, methods_in, statement
 use Rattle.spec_names.specs.Defined.{are_repeated, defined_by, doubles, doubles_behind, method_doubles, onto}
 use Rattle.spec_names.specs.Parameters.{all_default_refusals, are_misordered, parameter_refusals, refusals_of_parameters}
 use Rattle.spec_names.specs.Headers.{header_forms}
-use Rattle.spec_names.specs.Profile.{profile_refusal}
+use Rattle.spec_names.specs.Definitions.{definition_refusals}
 use Rattle.py_tree.specs.declared.ids.StmtId.{StmtId}
 use Rattle.py_tree.specs.Stmts.{block_tree}
 use Rattle.name_sets.specs.Marks.{marks_of}
-use Rattle.py_profile.specs.Telling.{Tells}
-use Rattle.py_profile.proofs.Telling.{stmts_end, stmts_from, tells_none, tells_then}
+use Rattle.told_refusals.specs.Telling.{Tells}
+use Rattle.told_refusals.proofs.Telling.{tells_none, tells_then}
+use Rattle.py_profile.proofs.Telling.{stmts_end, stmts_from}
 
 -- the refusals of a block behind names, those of a statement behind names, and the names that it defines
 module _ (walk : List (List ℕ) → Block → List Refusal) (here : List (List ℕ) → Statement → List Refusal) (defined : Statement → List (List ℕ)) where
@@ -100,6 +101,5 @@ parameters_told n x ps r b repeated hidden misordered t u v w z is-repeated is-h
 
 -- ---- a module
 
-pub whole : (b : Block) (t u v w : Option Refusal) → Tells None t (statement_refusals b) → Tells t u (doubles b) → Tells u v (header_forms b) → Tells v w (parameter_refusals b) → w ≡ profile_refusal b
-unfolding profile_refusal
-whole b t u v w f g h k = tells_then None v w _ _ (tells_then None u v _ _ (tells_then None t u _ _ f g) h) k [] refl
+pub definitions_told : (b : Block) (t u v w x : Option Refusal) → Tells t u (statement_refusals b) → Tells u v (doubles b) → Tells v w (header_forms b) → Tells w x (parameter_refusals b) → Tells t x (definition_refusals b)
+definitions_told b t u v w x f g h k = tells_then t w x _ _ (tells_then t v w _ _ (tells_then t u v _ _ f g) h) k

@@ -4,15 +4,15 @@ ghost use Rattle.py_tree.specs.Arena.{module_tree, shown_stmt};
 ghost use Rattle.py_tree.specs.Names.{AreNamesBelow, text_of};
 ghost use Rattle.py_tree.specs.Stmts.{AreStmtsBelow, block_tree};
 ghost use Rattle.name_sets.specs.Marks.{marks_of};
-ghost use Rattle.py_profile.specs.Telling.{Tells};
+ghost use Rattle.told_refusals.specs.Telling.{Tells};
 
 use crate::names::{are_given, defined};
-use crate::soonest::told_if;
 use module_members::{line_of, member_of, method_of, methods};
 use name_sets::NameSet;
 use py_tree::{Module, NameId, StmtId};
 use spec_names::{ProfileFault, Refusal};
 use std::alloc::Global;
+use told_refusals::told_if;
 use xh_outside::NoMemory;
 
 /// Adds names to a set, and tells whether one of them was in it or is that of an earlier one.

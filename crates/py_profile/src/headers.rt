@@ -6,14 +6,14 @@ ghost use Rattle.spec_names.specs.Names.{is_private};
 ghost use Rattle.py_tree.specs.Arena.{module_tree, shown_stmt};
 ghost use Rattle.py_tree.specs.Names.{AreNamesBelow, text_of};
 ghost use Rattle.py_tree.specs.Stmts.{AreParametersThere, AreStmtsBelow, block_tree, parameters_tree};
-ghost use Rattle.py_profile.specs.Telling.{Tells};
+ghost use Rattle.told_refusals.specs.Telling.{Tells};
 
-use crate::names::{are_private, defined, is_private};
-use crate::soonest::told_if;
-use module_members::{line_of, member_of, method_of, methods};
+use crate::names::{are_private, defined};
+use module_members::{is_private, line_of, member_of, method_of, methods};
 use py_tree::{Module, NameId, ParameterNode, StmtId, StmtNode};
 use spec_names::{ProfileFault, Refusal};
 use std::alloc::Global;
+use told_refusals::told_if;
 use xh_outside::NoMemory;
 
 // Whether the name of a method is left out.

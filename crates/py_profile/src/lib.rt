@@ -1,18 +1,19 @@
-//! Why a module is refused whose lines are right: for its names, or for what its statements are.
+//! Why a module is refused whose contract lines are right: for its definitions, or for how its names are used.
 //!
 //! [`check_profile`] answers the refusal that is told, if there is one.
 #![tactic(auto)]
 
+mod definitions;
 mod doubles;
 mod errors;
 mod headers;
 mod names;
 mod parameters;
 mod profile;
-mod soonest;
 mod statements;
 #[cfg(test)]
 mod tests;
+mod uses;
 
 pub use errors::ProfileError;
 pub use profile::check_profile;

@@ -8,7 +8,7 @@ ghost use Rattle.py_tree.specs.Names.{AreNamesBelow, text_of};
 ghost use Rattle.py_tree.specs.Stmts.{AreParametersThere, parameters_tree, texts_of};
 ghost use Rattle.module_members.specs.Defining.{IsThere, member_in};
 
-use module_members::{Member, is_given};
+use module_members::{Member, is_given, is_private};
 use py_tree::{Module, NameId, NamesId, ParameterNode};
 use std::alloc::Global;
 use xh_outside::NoMemory;
@@ -73,13 +73,6 @@ pub(crate) fn are_given(module: &Module, names: &[NameId]) -> bool
         }
     }
     false
-}
-
-/// Whether a name begins with two underscores.
-pub(crate) fn is_private(name: &str) -> bool
-    ensures { result ≡ is_private name.now }
-{
-    name.starts_with("__")
 }
 
 /// Whether one of these names begins with two underscores.

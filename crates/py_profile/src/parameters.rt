@@ -6,16 +6,16 @@ ghost use Rattle.spec_names.specs.Parameters.{all_default_refusals, are_misorder
 ghost use Rattle.py_tree.specs.Arena.{module_tree, shown, shown_stmt};
 ghost use Rattle.py_tree.specs.Exprs.{IsBoundBelow};
 ghost use Rattle.py_tree.specs.Stmts.{AreParametersThere, AreStmtsBelow, block_tree, optional_expr, parameters_tree};
-ghost use Rattle.py_profile.specs.Telling.{Tells};
+ghost use Rattle.told_refusals.specs.Telling.{Tells};
 
 use crate::doubles::are_repeated;
 use crate::names::{are_private, parameter_names};
-use crate::soonest::told_if;
 use module_members::{is_constant, line_of_expression, methods};
 use name_sets::NameSet;
 use py_tree::{ExprId, Module, ParameterNode, StmtId, StmtNode};
 use spec_names::{ProfileFault, Refusal};
 use std::alloc::Global;
+use told_refusals::told_if;
 use xh_outside::NoMemory;
 
 // What is told behind a default.

@@ -2,12 +2,12 @@ ghost use Rattle.std.specs.Prelude.{◌<◌, length};
 ghost use Rattle.spec_names.specs.Members.{each, statement_refusals, unless_member, unless_method};
 ghost use Rattle.py_tree.specs.Arena.{module_tree, shown_stmt};
 ghost use Rattle.py_tree.specs.Stmts.{AreStmtsBelow, block_tree};
-ghost use Rattle.py_profile.specs.Telling.{Tells};
+ghost use Rattle.told_refusals.specs.Telling.{Tells};
 
-use crate::soonest::told_if;
 use module_members::{line_of, member_of, method_of, methods};
 use py_tree::{Module, StmtId};
 use spec_names::{ProfileFault, Refusal};
+use told_refusals::told_if;
 
 // What is told behind a statement of a class.
 fn told_of_method(module: &Module, s: StmtId, told: Option<Refusal>) -> Option<Refusal>

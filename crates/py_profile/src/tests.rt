@@ -1,6 +1,7 @@
 ghost use Rattle.std.specs.Prelude.{◌≡◌, ◌<◌, length, IfOk};
 
 use crate::{ProfileError, check_profile};
+use contract_lines::{ContractLine, Contracts, FnId, LineKind, Owner};
 use py_tree::{ExprNode, Module, StmtId, StmtNode};
 use spec_names::ProfileFault;
 use std::test::Fail;
@@ -27,13 +28,54 @@ fn the_second_constant_of_a_name_is_refused(rt: HostRuntime) -> Result<(), Fail>
     let mut module = Module::new(alloc);
     let first = add_constant(&mut module, 1)?;
     module.push_top(first)?;
-    assert!(rt; check_profile(alloc, &module) == Ok(()));
+    let contracts = Contracts::new(alloc);
+    assert!(rt; check_profile(alloc, &module, &contracts) == Ok(()));
     let second = add_constant(&mut module, 2)?;
     module.push_top(second)?;
     let want = ProfileError::Refused {
         line: 2,
         fault: ProfileFault::Duplicate,
     };
-    assert!(rt; check_profile(alloc, &module) == Err(want));
+    assert!(rt; check_profile(alloc, &module, &contracts) == Err(want));
+    Ok(())
+}
+
+#[test]
+fn names_that_nothing_defines_are_refused(rt: HostRuntime) -> Result<(), Fail> {
+    let alloc = rt.alloc();
+    let mut module = Module::new(alloc);
+    let name = module.add_name("f")?;
+    let unknown = module.add_name("x")?;
+    let value = module.add_expr(ExprNode::Name {
+        line: 2,
+        name: unknown,
+    })?;
+    let returned = module.add_stmt(StmtNode::Return {
+        line: 2,
+        value: Some(value),
+    })?;
+    let function = module.add_stmt(StmtNode::Def {
+        line: 1,
+        last: 2,
+        name,
+        parameters: Vec::new(alloc),
+        result: None,
+        body: vec![in alloc; returned]?,
+    })?;
+    module.push_top(function)?;
+    let mut contracts = Contracts::new(alloc);
+    let want = ProfileError::Refused {
+        line: 2,
+        fault: ProfileFault::UnknownName,
+    };
+    assert!(rt; check_profile(alloc, &module, &contracts) == Err(want));
+    contracts.push(ContractLine {
+        owner: Owner::Function(FnId { index: 0 }),
+        kind: LineKind::Post,
+        line: 1,
+        expr: Some(value),
+        names: None,
+    })?;
+    assert!(rt; check_profile(alloc, &module, &contracts) == Err(want));
     Ok(())
 }

@@ -20,7 +20,7 @@ use Rattle.spec_contracts.specs.ContractLines.{ContractLine, contracts_of}
 use Rattle.spec_names.specs.declared.ProfileFault.{ProfileFault}
 use Rattle.spec_names.specs.declared.ProfileFault.TheVariants as profile
 use Rattle.spec_names.specs.declared.Refusal as names
-use Rattle.spec_names.specs.Profile.{profile_refusal}
+use Rattle.spec_profile.specs.Profile.{profile_refusal}
 use Rattle.spec_forms.specs.Forms.{functions_of}
 
 -- why a content is not admitted: the name of the refusal, and the line at which it shows
@@ -63,14 +63,14 @@ abbrev pub formed : Result (List Function) ℕ → Result Program Refusal
 formed (Ok fs) = Ok (record { functions = fs })
 formed (Err n) = refused n (codes "NotBuilt")
 
--- the program of a block whose contract lines are right
+-- the program of a block whose contract lines are right, by what is told of its names
 abbrev pub as_profile : Block → Option names.Refusal → Result Program Refusal
 as_profile b None = formed (functions_of [] b)
 as_profile b (Some r) = refused r.line (profile_fault_name r.fault)
 
 -- the program of a block whose contract lines are read
 abbrev pub as_contracts : Block → Result (List ContractLine) contracts.Refusal → Result Program Refusal
-as_contracts b (Ok ls) = as_profile b (profile_refusal b)
+as_contracts b (Ok ls) = as_profile b (profile_refusal b ls)
 as_contracts b (Err r) = refused r.line (contract_fault_name r.fault)
 
 abbrev pub as_block : Result Block Misfit → Result Program Refusal

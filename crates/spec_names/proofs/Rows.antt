@@ -15,7 +15,8 @@ use Rattle.spec_names.specs.declared.Refusal.{Refusal}
 use Rattle.spec_names.specs.Members.{is_constant, is_main_test, member_of, statement_refusals}
 use Rattle.spec_names.specs.Headers.{header_forms}
 use Rattle.spec_names.specs.Parameters.{parameter_refusals}
-use Rattle.spec_names.specs.Profile.{profile_refusal}
+use Rattle.spec_names.specs.Refusals.{first_refusal}
+use Rattle.spec_names.specs.Definitions.{definition_refusals}
 use Rattle.spec_names.specs.Defined.{doubles}
 
 abbrev part : List ℕ → StringPart
@@ -88,8 +89,7 @@ names_of_one_import_are_apart = refl
 parameters_are_apart : parameter_refusals (statement (function 1 (codes "f") (parameter (codes "x") ∷ parameter (codes "x") ∷ [])) no_statement) ≡ refused 1 Duplicate
 parameters_are_apart = refl
 
-later_of_two_constants_is_told : profile_refusal (statement (one 1 (codes "X")) (statement (one 2 (codes "X")) no_statement)) ≡ Some (record { line = 2; fault = Duplicate })
-unfolding profile_refusal
+later_of_two_constants_is_told : first_refusal (definition_refusals (statement (one 1 (codes "X")) (statement (one 2 (codes "X")) no_statement))) ≡ Some (record { line = 2; fault = Duplicate })
 later_of_two_constants_is_told = refl
 
 -- ---- headers

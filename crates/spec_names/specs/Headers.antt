@@ -1,24 +1,23 @@
 -- The names and headers of definitions that a module does not admit.
-use Rattle.std.specs.Prelude.{ℕ, Bool, false, not, ◌&&◌, List, [], ◌∷◌, ◌++◌, codes}
+use Rattle.std.specs.Prelude.{ℕ, Bool, false, not, ◌&&◌, List, [], ◌∷◌, ◌++◌}
 use Rattle.std.specs.List.{list_any}
-use Rattle.std.specs.Str.{bytes_eq}
 use Rattle.spec_trees.specs.Stmt.{Parameter}
 use Rattle.spec_trees.specs.Module.{Statement, Block, def}
 use Rattle.spec_names.specs.Lines.{line_of}
 use Rattle.spec_names.specs.declared.ProfileFault.TheVariants.{Form}
 use Rattle.spec_names.specs.declared.Refusal.{Refusal}
 use Rattle.spec_names.specs.Refusals.{refused_if}
-use Rattle.spec_names.specs.Names.{is_private}
+use Rattle.spec_names.specs.Names.{is_init, is_private, is_self}
 use Rattle.spec_names.specs.Members.{member_of, method_of, methods_in, each}
 use Rattle.spec_names.specs.Defined.{defined_by}
 
 -- `__init__` is the one method whose name begins with two underscores
 abbrev pub is_private_method : List ℕ → Bool
-is_private_method x = is_private x && not (bytes_eq x (codes "__init__"))
+is_private_method x = is_private x && not (is_init x)
 
 abbrev pub is_self_first : List Parameter → Bool
 is_self_first [] = false
-is_self_first (p ∷ ps) = bytes_eq p.name (codes "self")
+is_self_first (p ∷ ps) = is_self p.name
 
 -- a method whose first parameter is not `self`
 abbrev pub lacks_self : Statement → Bool

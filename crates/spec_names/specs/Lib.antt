@@ -5,4 +5,4 @@ pub mod Members
 pub mod Defined
 pub mod Parameters
 pub mod Headers
-pub mod Profile
+pub mod Definitions

@@ -18,6 +18,13 @@ is_given x = is_builtin x || is_exception x
 abbrev pub is_private : List ℕ → Bool
 is_private x = starts_with nat_eq x (codes "__")
 
+abbrev pub is_self : List ℕ → Bool
+is_self x = bytes_eq x (codes "self")
+
+-- the name of a constructor
+abbrev pub is_init : List ℕ → Bool
+is_init x = bytes_eq x (codes "__init__")
+
 -- the names of parameters
 abbrev pub names_of : List Parameter → List (List ℕ)
 names_of ps = map (λ (p : Parameter). p.name) ps

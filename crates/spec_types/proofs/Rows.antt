@@ -8,9 +8,11 @@ use Rattle.spec_trees.specs.Module.{Block, Statement, no_statement, statement}
 use Rattle.spec_names.specs.declared.ProfileFault.{ProfileFault}
 use Rattle.spec_names.specs.declared.ProfileFault.TheVariants.{MissingType, UnknownType}
 use Rattle.spec_names.specs.declared.Refusal.{Refusal}
+use Rattle.spec_uses.specs.Functions.{FunctionOf}
+use Rattle.spec_types.specs.Quotes.{unquoted}
 use Rattle.spec_types.specs.Types.{ValueType, integer, truth, none, list_of, dict_of, option_of, instance, type_of}
 use Rattle.spec_types.specs.Classes.{constructor_at}
-use Rattle.spec_types.specs.Needs.{FunctionOf, are_of, type_refusals}
+use Rattle.spec_types.specs.Needs.{are_of, type_refusals}
 use Rattle.spec_types.specs.Widths.{class_width, greatest_width, is_wider, width_in, width_of}
 
 abbrev refused : ℕ → ProfileFault → List Refusal
@@ -38,55 +40,55 @@ one t = type_item t no_types
 -- ---- types
 
 names_are_types : type_of body int ≡ Some integer
-unfolding type_of
+unfolding unquoted
 names_are_types = refl
 
 classes_are_types : type_of body (plain (codes "C")) ≡ Some (instance 0)
-unfolding type_of
+unfolding unquoted
 classes_are_types = refl
 
 other_names_are_not : type_of body (plain (codes "float")) ≡ None
-unfolding type_of
+unfolding unquoted
 other_names_are_not = refl
 
 lists_have_elements : type_of body (plain (codes "list")) ≡ None
-unfolding type_of
+unfolding unquoted
 lists_have_elements = refl
 
 imported_names_are_types : type_of body (named (codes "List") (one int)) ≡ Some (list_of integer)
-unfolding type_of
+unfolding unquoted
 imported_names_are_types = refl
 
 names_that_are_not_imported_are_not : type_of body (named (codes "Dict") (type_item int (one int))) ≡ None
-unfolding type_of
+unfolding unquoted
 names_that_are_not_imported_are_not = refl
 
 keys_are_no_lists : type_of body (named (codes "dict") (type_item (named (codes "list") (one int)) (one int))) ≡ None
-unfolding type_of
+unfolding unquoted
 keys_are_no_lists = refl
 
 truth_values_are_keys : type_of body (named (codes "dict") (type_item (plain (codes "bool")) (one int))) ≡ Some (dict_of truth integer)
-unfolding type_of
+unfolding unquoted
 truth_values_are_keys = refl
 
 doubled_options_are_one : type_of body (named (codes "Optional") (one (simple.union 1 int (one (simple.none 1))))) ≡ Some (option_of integer)
-unfolding type_of
+unfolding unquoted
 doubled_options_are_one = refl
 
 unions_with_none_are_options : type_of body (simple.union 1 (simple.none 1) (one int)) ≡ Some (option_of integer)
-unfolding type_of
+unfolding unquoted
 unions_with_none_are_options = refl
 
 unions_of_none_are_none : type_of body (simple.union 1 (simple.none 1) (one (simple.none 1))) ≡ Some none
-unfolding type_of
+unfolding unquoted
 unions_of_none_are_none = refl
 
 other_unions_are_not : type_of body (simple.union 1 int (one (plain (codes "str")))) ≡ None
-unfolding type_of
+unfolding unquoted
 other_unions_are_not = refl
 
 unions_without_none_are_not : type_of body (simple.union 1 int (one int)) ≡ None
-unfolding type_of
+unfolding unquoted
 unions_without_none_are_not = refl
 
 -- ---- needs
@@ -98,11 +100,11 @@ missing_types_are_told : type_refusals body 1 (parameter (codes "x") None) ≡ r
 missing_types_are_told = refl
 
 unknown_types_are_told_at_their_lines : type_refusals body 1 (parameter (codes "x") (Some (simple.name 3 (codes "float") no_types))) ≡ refused 3 UnknownType
-unfolding type_of
+unfolding unquoted
 unknown_types_are_told_at_their_lines = refl
 
 types_are_fine : type_refusals body 1 (parameter (codes "x") (Some int)) ≡ []
-unfolding type_of
+unfolding unquoted
 types_are_fine = refl
 
 -- a class whose constructor takes a value of this type
@@ -110,34 +112,34 @@ abbrev reaching : Option TypeExpr → Block
 reaching t = statement (tree.class 5 (codes "A") (statement (tree.def 6 (codes "__init__") (parameter (codes "self") None ∷ parameter (codes "y") t ∷ []) None pass) no_statement)) no_statement
 
 constructors_take_what_stands_behind_self : are_of (reaching (Some (plain (codes "A")))) 0 (constructor_at (reaching (Some (plain (codes "A")))) 0) ≡ true
-unfolding type_of
+unfolding unquoted
 constructors_take_what_stands_behind_self = refl
 
 -- ---- widths
 
 lists_count_their_elements : class_width (reaching (Some (named (codes "list") (one (plain (codes "str")))))) 3 3 0 ≡ Some 14
-unfolding type_of
+unfolding unquoted
 lists_count_their_elements = refl
 
 -- A takes an A or None: three of them stand in each other, and what stands inside counts one
 classes_reach_themselves : class_width (reaching (Some (simple.union 1 (plain (codes "A")) (one (simple.none 1))))) 3 3 0 ≡ Some 4
-unfolding type_of
+unfolding unquoted
 classes_reach_themselves = refl
 
 widths_need_types : class_width (reaching None) 3 3 0 ≡ None
-unfolding type_of
+unfolding unquoted
 widths_need_types = refl
 
 -- a method of the class of the number 0
 abbrev method : List ℕ → FunctionOf
-method x = record { line = 7; name = x; parameters = parameter (codes "self") None ∷ parameter (codes "z") (Some int) ∷ []; body = pass; class = Some (0, false) }
+method x = record { line = 7; name = x; parameters = parameter (codes "self") None ∷ parameter (codes "z") (Some int) ∷ []; body = pass; class = Some 0 }
 
 methods_count_their_objects : width_of (reaching (Some (plain (codes "str")))) 3 2 (method (codes "m")) ≡ Some 6
-unfolding type_of
+unfolding unquoted
 methods_count_their_objects = refl
 
 constructors_do_not : width_of (reaching (Some (plain (codes "str")))) 3 2 (method (codes "__init__")) ≡ Some 1
-unfolding type_of
+unfolding unquoted
 constructors_do_not = refl
 
 greatest_width_is_admitted : is_wider greatest_width (Some 4096) ≡ false

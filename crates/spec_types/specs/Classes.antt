@@ -1,10 +1,11 @@
 -- The classes of a module, and what their constructors take.
-use Rattle.std.specs.Prelude.{ℕ, zero, suc, Bool, List, [], ◌∷◌, Option, Some, None, codes, if◌then◌else◌}
+use Rattle.std.specs.Prelude.{ℕ, suc, List, [], ◌∷◌, slice_get, Option, Some, None, if◌then◌else◌}
 use Rattle.std.specs.Option.{option_map}
 use Rattle.std.specs.Str.{bytes_eq}
 use Rattle.spec_trees.specs.Stmt.{Parameter}
 use Rattle.spec_trees.specs.Module as tree
 use Rattle.spec_trees.specs.Module.{Block, no_statement, statement}
+use Rattle.spec_names.specs.Names.{is_init, is_self}
 use Rattle.spec_uses.specs.declared.Meaning.{Meaning}
 use Rattle.spec_uses.specs.declared.Meaning.TheVariants as meaning
 use Rattle.spec_uses.specs.Meanings.{defined_as}
@@ -33,25 +34,21 @@ class_number b x = by_meaning (defined_as b x)
     by_meaning (Some meaning.Class) = place_of (classes b) x
     by_meaning m = None
 
-abbrev pub nth : List ClassOf → ℕ → Option ClassOf
-nth [] n = None
-nth (c ∷ cs) zero = Some c
-nth (c ∷ cs) (suc n) = nth cs n
+-- the class of a number
+abbrev pub class_at : Block → ℕ → Option ClassOf
+class_at b k = slice_get (classes b) k
 
 -- ---- constructors
 
 -- the parameters behind a `self` that stands first
 abbrev pub behind_self : List Parameter → List Parameter
 behind_self [] = []
-behind_self (p ∷ ps) = if bytes_eq p.name (codes "self") then ps else p ∷ ps
-
-abbrev pub is_constructor : List ℕ → Bool
-is_constructor x = bytes_eq x (codes "__init__")
+behind_self (p ∷ ps) = if is_self p.name then ps else p ∷ ps
 
 -- what the constructor of a class takes, which is nothing where it has none
 abbrev pub constructor_of : Block → List Parameter
 constructor_of no_statement = []
-constructor_of (statement (tree.def n x ps r b) c) = if is_constructor x then behind_self ps else constructor_of c
+constructor_of (statement (tree.def n x ps r b) c) = if is_init x then behind_self ps else constructor_of c
 constructor_of (statement s c) = constructor_of c
 
 abbrev pub taken_by : Option ClassOf → List Parameter
@@ -60,4 +57,4 @@ taken_by (Some c) = constructor_of c.body
 
 -- what the constructor of the class of a number takes
 abbrev pub constructor_at : Block → ℕ → List Parameter
-constructor_at b k = taken_by (nth (classes b) k)
+constructor_at b k = taken_by (class_at b k)

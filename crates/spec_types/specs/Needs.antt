@@ -1,66 +1,42 @@
 -- Which functions are checked, which parameters need a type, and which of these have none.
-use Rattle.std.specs.Prelude.{ℕ, zero, suc, Bool, true, false, not, ◌&&◌, ◌||◌, ◌==◌, List, [], ◌∷◌, ◌++◌, length, Option, Some, None, if◌then◌else◌}
+use Rattle.std.specs.Prelude.{ℕ, zero, suc, Bool, true, false, not, ◌&&◌, ◌||◌, ◌==◌, List, [], ◌∷◌, length, Option, Some, None, if◌then◌else◌}
 use Rattle.std.specs.List.{list_any, flat_map}
 use Rattle.spec_trees.specs.Stmt.{Parameter, TypeExpr}
-use Rattle.spec_trees.specs.Module as tree
-use Rattle.spec_trees.specs.Module.{Block, Statement, no_statement, statement}
+use Rattle.spec_trees.specs.Module.{Block}
 use Rattle.spec_contracts.specs.ContractLines.{lines_of}
 use Rattle.spec_contracts.specs.Owners.{class_owned, function_owned}
+use Rattle.spec_names.specs.Names.{is_init}
 use Rattle.spec_names.specs.declared.ProfileFault.TheVariants.{MissingType, UnknownType}
 use Rattle.spec_names.specs.declared.Refusal.{Refusal}
 use Rattle.spec_names.specs.Refusals.{refused_if}
 use Rattle.spec_types.specs.Types.{ValueType, list_of, dict_of, option_of, instance, line_of_type, type_of}
-use Rattle.spec_types.specs.Classes.{ClassOf, behind_self, classes, constructor_at, is_constructor}
-
--- ---- functions, and the classes in which they stand
-
--- a function of a module, perhaps of a class
-pub record FunctionOf : Type 0 where
-  pub line : ℕ
-  pub name : List ℕ
-  pub parameters : List Parameter
-  pub body : Block
-  -- the number of its class, and whether that has an invariant
-  pub class : Option (ℕ × Bool)
-
--- the functions of a block
-abbrev pub functions_in : Option (ℕ × Bool) → Block → List FunctionOf
-functions_in c no_statement = []
-functions_in c (statement (tree.def n x ps r b) d) = record { line = n; name = x; parameters = ps; body = b; class = c } ∷ functions_in c d
-functions_in c (statement s d) = functions_in c d
-
--- whether a class has contract lines, which are invariants
-abbrev pub has_invariant : Block → Bool
-has_invariant b = not (length (lines_of (class_owned 0 b)) == 0)
-
--- the functions of the classes of a block, of which k stand before it
-abbrev pub functions_of_classes : ℕ → List ClassOf → List FunctionOf
-functions_of_classes k [] = []
-functions_of_classes k (c ∷ cs) = functions_in (Some (k, has_invariant c.body)) c.body ++ functions_of_classes (suc k) cs
-
--- all functions of a module
-abbrev pub all_functions : Block → List FunctionOf
-all_functions b = functions_in None b ++ functions_of_classes 0 (classes b)
+use Rattle.spec_uses.specs.Functions.{FunctionOf, all_functions}
+use Rattle.spec_types.specs.Classes.{ClassOf, behind_self, class_at, classes, constructor_at}
 
 -- ---- checked functions
 
-abbrev pub is_promised : Option (ℕ × Bool) → Bool
-is_promised None = false
-is_promised (Some c) = c.1
+-- A class with contract lines, which are invariants.
+abbrev pub has_invariant : Option ClassOf → Bool
+has_invariant None = false
+has_invariant (Some c) = not (length (lines_of (class_owned 0 c.body)) == 0)
+
+abbrev pub is_promised : Block → Option ℕ → Bool
+is_promised b None = false
+is_promised b (Some k) = has_invariant (class_at b k)
 
 -- A function is checked where its docstring has a contract line, or that of its class an invariant.
-abbrev pub is_checked : FunctionOf → Bool
-is_checked f = not (length (lines_of (function_owned 0 f.parameters f.body)) == 0) || is_promised f.class
+abbrev pub is_checked : Block → FunctionOf → Bool
+is_checked b f = not (length (lines_of (function_owned 0 f.parameters f.body)) == 0) || is_promised b f.class
 
-abbrev pub is_of : ℕ → Option (ℕ × Bool) → Bool
+abbrev pub is_of : ℕ → Option ℕ → Bool
 is_of k None = false
-is_of k (Some c) = c.0 == k
+is_of k (Some c) = c == k
 
 -- the parameters of a function, but for the `self` of a class
 abbrev pub typed : FunctionOf → List Parameter
 typed f = by_class f.class
   where
-    by_class : Option (ℕ × Bool) → List Parameter
+    by_class : Option ℕ → List Parameter
     by_class None = f.parameters
     by_class (Some c) = behind_self f.parameters
 
@@ -88,7 +64,7 @@ are_of b k ps = list_any (λ (p : Parameter). has_class k (annotated b p.annotat
 
 -- a class of a checked function, or of which the types of its parameters speak
 abbrev pub is_named_by : Block → ℕ → FunctionOf → Bool
-is_named_by b k f = is_checked f && (is_of k f.class || are_of b k (typed f))
+is_named_by b k f = is_checked b f && (is_of k f.class || are_of b k (typed f))
 
 abbrev pub below : ℕ → List ℕ
 below zero = []
@@ -105,17 +81,13 @@ is_reached b k = is_reached_by b (length (classes b)) k
 
 -- ---- refusals
 
--- a constructor of a class that is reached
-abbrev pub is_reached_constructor : Block → FunctionOf → Bool
-is_reached_constructor b f = is_constructor f.name && by_class f.class
-  where
-    by_class : Option (ℕ × Bool) → Bool
-    by_class None = false
-    by_class (Some c) = is_reached b c.0
+abbrev pub is_of_reached : Block → Option ℕ → Bool
+is_of_reached b None = false
+is_of_reached b (Some k) = is_reached b k
 
 -- the parameters of checked functions and of constructors that are reached
 abbrev pub needs_types : Block → FunctionOf → Bool
-needs_types b f = is_checked f || is_reached_constructor b f
+needs_types b f = is_checked b f || (is_init f.name && is_of_reached b f.class)
 
 abbrev pub is_missing : Option ValueType → Bool
 is_missing None = true

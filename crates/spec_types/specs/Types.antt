@@ -1,17 +1,15 @@
 -- The types that annotations are.
-use Rattle.std.specs.Prelude.{ℕ, zero, suc, Bool, true, false, ◌&&◌, ◌||◌, ◌+◌, List, [], ◌∷◌, length, Option, Some, None, Result, Ok, Err, codes, if◌then◌else◌}
+use Rattle.std.specs.Prelude.{ℕ, Bool, true, false, ◌&&◌, ◌||◌, List, [], ◌∷◌, Option, Some, None, codes, if◌then◌else◌}
 use Rattle.std.specs.Option.{option_map}
 use Rattle.std.specs.Str.{bytes_eq}
-use Rattle.spec_trees.specs.Expr.{StringPart}
 use Rattle.spec_trees.specs.Stmt as tree
 use Rattle.spec_trees.specs.Stmt.{TypeExpr, TypeExprs}
 use Rattle.spec_trees.specs.Module.{Block}
-use Rattle.spec_syntax.specs.Phases.{Misfit}
-use Rattle.spec_syntax.specs.Texts.{parsed_type}
 use Rattle.spec_uses.specs.declared.Meaning.{Meaning}
 use Rattle.spec_uses.specs.declared.Meaning.TheVariants as meaning
 use Rattle.spec_uses.specs.Meanings.{defined_as}
 use Rattle.spec_types.specs.Classes.{class_number}
+use Rattle.spec_types.specs.Quotes.{unquoted}
 
 -- the type of a parameter
 pub data ValueType : Type 0 where
@@ -110,43 +108,26 @@ all_of (Some ts) f = f ts
 
 -- ---- annotations
 
-module _ (b : Block) (spelled : StringPart → Option ValueType) where
+module _ (b : Block) where
   abbrev mutual
-    -- the type that an annotation is, where this tells what strings spell
+    -- the type that an annotation without strings is
     pub type_in : TypeExpr → Option ValueType
     type_in (tree.name n x ts) = all_of (types_in ts) (bracketed b x)
     type_in (tree.union n t ts) = all_of (onto (type_in t) (types_in ts)) (λ us. united (others us))
     type_in (tree.none n) = Some none
-    type_in (tree.string n p) = spelled p
+    type_in (tree.string n p) = None
 
     pub types_in : TypeExprs → Option (List ValueType)
     types_in tree.no_types = Some []
     types_in (tree.type_item t ts) = onto (type_in t) (types_in ts)
 
-abbrev pub type_of_text : Block → (StringPart → Option ValueType) → Result TypeExpr Misfit → Option ValueType
-type_of_text b spelled (Ok t) = type_in b spelled t
-type_of_text b spelled (Err e) = None
-
--- the type that a string spells, where strings stand in each other so many times at most
-abbrev pub spelled_type : Block → ℕ → StringPart → Option ValueType
-spelled_type b zero p = None
-spelled_type b (suc k) p = type_of_text b (spelled_type b k) (parsed_type p.line p.value)
-
-abbrev mutual
-  -- the letters of the strings in an annotation, more than which cannot be in strings in each other
-  pub letters : TypeExpr → ℕ
-  letters (tree.name n x ts) = all_letters ts
-  letters (tree.union n t ts) = letters t + all_letters ts
-  letters (tree.none n) = 0
-  letters (tree.string n p) = length p.value
-
-  pub all_letters : TypeExprs → ℕ
-  all_letters tree.no_types = 0
-  all_letters (tree.type_item t ts) = letters t + all_letters ts
+abbrev pub type_if : Block → Option TypeExpr → Option ValueType
+type_if b None = None
+type_if b (Some t) = type_in b t
 
 -- The type that an annotation is. A string that holds a type stands for it.
-unfoldable pub type_of : Block → TypeExpr → Option ValueType
-type_of b t = type_in b (spelled_type b (suc (letters t))) t
+abbrev pub type_of : Block → TypeExpr → Option ValueType
+type_of b t = type_if b (unquoted t)
 
 abbrev pub line_of_type : TypeExpr → ℕ
 line_of_type (tree.name n x ts) = n

@@ -9,8 +9,10 @@ use Rattle.spec_names.specs.declared.Refusal.{Refusal}
 use Rattle.spec_names.specs.Refusals.{refused_if}
 use Rattle.spec_types.specs.Types.{ValueType, integer, truth, none, text, list_of, dict_of, option_of, instance}
 use Rattle.spec_names.specs.Headers.{is_self_first}
-use Rattle.spec_types.specs.Classes.{constructor_at, is_constructor}
-use Rattle.spec_types.specs.Needs.{FunctionOf, all_functions, annotated, is_checked, typed}
+use Rattle.spec_names.specs.Names.{is_init}
+use Rattle.spec_uses.specs.Functions.{FunctionOf, all_functions}
+use Rattle.spec_types.specs.Classes.{constructor_at}
+use Rattle.spec_types.specs.Needs.{annotated, is_checked, typed}
 
 -- the sum of two widths, where both are there
 abbrev pub plus : Option ℕ → Option ℕ → Option ℕ
@@ -48,11 +50,11 @@ class_width b max_len (suc k) c = option_map suc (total b max_len (class_width b
 
 -- the width of a `self` that stands first in a method, which a constructor makes and does not take
 abbrev pub self_width : (ℕ → Option ℕ) → FunctionOf → Option ℕ
-self_width of_class f = if is_self_first f.parameters && not (is_constructor f.name) then by_class f.class else Some 0
+self_width of_class f = if is_self_first f.parameters && not (is_init f.name) then by_class f.class else Some 0
   where
-    by_class : Option (ℕ × Bool) → Option ℕ
+    by_class : Option ℕ → Option ℕ
     by_class None = Some 0
-    by_class (Some c) = of_class c.0
+    by_class (Some k) = of_class k
 
 -- The widths of the parameters of a function together. It has none where a constructor lacks a type.
 abbrev pub width_of : Block → ℕ → ℕ → FunctionOf → Option ℕ
@@ -68,4 +70,4 @@ is_wider n (Some w) = nat_lt n w
 
 -- the checked functions that are too wide
 abbrev pub width_refusals : Block → ℕ → ℕ → List Refusal
-width_refusals b max_len max_nest = flat_map (λ (f : FunctionOf). refused_if (is_checked f && is_wider greatest_width (width_of b max_len max_nest f)) f.line TooWide) (all_functions b)
+width_refusals b max_len max_nest = flat_map (λ (f : FunctionOf). refused_if (is_checked b f && is_wider greatest_width (width_of b max_len max_nest f)) f.line TooWide) (all_functions b)

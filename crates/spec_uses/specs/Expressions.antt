@@ -15,6 +15,8 @@ use Rattle.spec_names.specs.Members.{bare}
 use Rattle.spec_names.specs.Defined.{are_repeated}
 use Rattle.spec_uses.specs.declared.Meaning.{Meaning}
 use Rattle.spec_uses.specs.declared.Meaning.TheVariants as meaning
+use Rattle.spec_uses.specs.declared.Place.{Place}
+use Rattle.spec_uses.specs.declared.Place.TheVariants.{Called, Read, Walked}
 use Rattle.spec_uses.specs.Meanings.{Scope, with_locals}
 
 abbrev pub refused : ℕ → ProfileFault → List Refusal
@@ -134,29 +136,21 @@ is_misused (Some b) xs = not (length (keywords xs) == 0) || not (takes b (count 
 
 -- ---- expressions
 
--- where an expression stands
-pub data Place : Type 0 where
-  read : Place
-  -- what is walked over, which may be a `range`
-  walked : Place
-  -- what is called by a call on this line
-  called : ℕ → Place
-
 abbrev pub is_walked : Place → Bool
-is_walked walked = true
+is_walked Walked = true
 is_walked p = false
 
 abbrev pub is_called : Place → Bool
-is_called (called n) = true
+is_called (Called n) = true
 is_called p = false
 
 -- what is called is a name, or a method of what stands before its name
 abbrev pub unless_called : Place → List Refusal
-unless_called (called n) = refused n Form
+unless_called (Called n) = refused n Form
 unless_called p = []
 
 abbrev pub name_in : Place → Meaning → ℕ → List ℕ → List Refusal
-name_in (called n) k m x = called_as k n m x
+name_in (Called n) k m x = called_as k n m x
 name_in p k m x = read_as k m x
 
 abbrev mutual
@@ -172,15 +166,15 @@ abbrev mutual
   uses p s (tree.dict n ps) = unless_called p ++ uses_in_pairs s ps
   uses p s (tree.comprehension n g) = unless_called p ++ uses_in_generator s n g
   uses p s (tree.attribute n e x) =
-      if is_old (stands_for s e) && not (is_called p) then refused_if (not (is_among s.olds x)) n UnknownName else (refused_if (is_private x) n Form ++ uses read s e)
+      if is_old (stands_for s e) && not (is_called p) then refused_if (not (is_among s.olds x)) n UnknownName else (refused_if (is_private x) n Form ++ uses Read s e)
   uses p s (tree.call n f xs) =
-      unless_called p ++ refused_if (is_range (builtin_in (stands_for s f)) && not (is_walked p)) n Form ++ uses (called n) s f ++ uses_in_call s n (builtin_in (stands_for s f)) xs
-  uses p s (tree.index n e i) = unless_called p ++ uses read s e ++ uses read s i
-  uses p s (tree.slice n e a b) = unless_called p ++ uses read s e ++ uses_in_bound s a ++ uses_in_bound s b
-  uses p s (tree.prefixed n o e) = unless_called p ++ uses read s e
-  uses p s (tree.binary n o a b) = unless_called p ++ uses read s a ++ uses read s b
-  uses p s (tree.chain n e ls) = unless_called p ++ uses read s e ++ uses_in_links s ls
-  uses p s (tree.choice n a c b) = unless_called p ++ uses read s a ++ uses read s c ++ uses read s b
+      unless_called p ++ refused_if (is_range (builtin_in (stands_for s f)) && not (is_walked p)) n Form ++ uses (Called n) s f ++ uses_in_call s n (builtin_in (stands_for s f)) xs
+  uses p s (tree.index n e i) = unless_called p ++ uses Read s e ++ uses Read s i
+  uses p s (tree.slice n e a b) = unless_called p ++ uses Read s e ++ uses_in_bound s a ++ uses_in_bound s b
+  uses p s (tree.prefixed n o e) = unless_called p ++ uses Read s e
+  uses p s (tree.binary n o a b) = unless_called p ++ uses Read s a ++ uses Read s b
+  uses p s (tree.chain n e ls) = unless_called p ++ uses Read s e ++ uses_in_links s ls
+  uses p s (tree.choice n a c b) = unless_called p ++ uses Read s a ++ uses Read s c ++ uses Read s b
 
   -- the arguments of a call on the line n, perhaps of a built-in function
   pub uses_in_call : Scope → ℕ → Option Builtin → Arguments → List Refusal
@@ -194,33 +188,33 @@ abbrev mutual
   -- The class of `isinstance` is a name of its own, and the sole argument of some functions is walked over.
   pub uses_in_arguments : Scope → ℕ → Option Builtin → ArgumentList → List Refusal
   uses_in_arguments s n b tree.no_arguments = []
-  uses_in_arguments s n b (tree.argument k e tree.no_arguments) = uses (if is_walk b then walked else read) s e
+  uses_in_arguments s n b (tree.argument k e tree.no_arguments) = uses (if is_walk b then Walked else Read) s e
   uses_in_arguments s n b (tree.argument k e (tree.argument l c xs)) =
-      uses read s e
-      ++ (if is_isinstance b && is_class (stands_for s c) then [] else (refused_if (is_isinstance b) n Form ++ uses read s c))
+      uses Read s e
+      ++ (if is_isinstance b && is_class (stands_for s c) then [] else (refused_if (is_isinstance b) n Form ++ uses Read s c))
       ++ uses_in_rest s xs
 
   pub uses_in_rest : Scope → ArgumentList → List Refusal
   uses_in_rest s tree.no_arguments = []
-  uses_in_rest s (tree.argument k e xs) = uses read s e ++ uses_in_rest s xs
+  uses_in_rest s (tree.argument k e xs) = uses Read s e ++ uses_in_rest s xs
 
   -- A generator whose expression begins on the line n. Its variable is its own, and what it walks over stands outside.
   pub uses_in_generator : Scope → ℕ → Generator → List Refusal
   uses_in_generator s n (tree.generator e x i cs) =
-      refused_if (is_private x) n Form ++ uses walked s i ++ uses read (with_locals (x ∷ []) s) e ++ uses_in (with_locals (x ∷ []) s) cs
+      refused_if (is_private x) n Form ++ uses Walked s i ++ uses Read (with_locals (x ∷ []) s) e ++ uses_in (with_locals (x ∷ []) s) cs
 
   pub uses_in : Scope → Exprs → List Refusal
   uses_in s tree.no_exprs = []
-  uses_in s (tree.item e es) = uses read s e ++ uses_in s es
+  uses_in s (tree.item e es) = uses Read s e ++ uses_in s es
 
   pub uses_in_pairs : Scope → Pairs → List Refusal
   uses_in_pairs s tree.no_pairs = []
-  uses_in_pairs s (tree.pair k v ps) = uses read s k ++ uses read s v ++ uses_in_pairs s ps
+  uses_in_pairs s (tree.pair k v ps) = uses Read s k ++ uses Read s v ++ uses_in_pairs s ps
 
   pub uses_in_links : Scope → Links → List Refusal
   uses_in_links s tree.no_links = []
-  uses_in_links s (tree.link o e ls) = uses read s e ++ uses_in_links s ls
+  uses_in_links s (tree.link o e ls) = uses Read s e ++ uses_in_links s ls
 
   pub uses_in_bound : Scope → Bound → List Refusal
   uses_in_bound s tree.absent = []
-  uses_in_bound s (tree.present e) = uses read s e
+  uses_in_bound s (tree.present e) = uses Read s e

@@ -10,8 +10,9 @@ use Rattle.spec_names.specs.declared.ProfileFault.TheVariants.{Form}
 use Rattle.spec_names.specs.declared.Refusal.{Refusal}
 use Rattle.spec_names.specs.Refusals.{refused_if}
 use Rattle.spec_names.specs.Names.{is_private}
+use Rattle.spec_uses.specs.declared.Place.TheVariants.{Read, Walked}
 use Rattle.spec_uses.specs.Meanings.{Scope}
-use Rattle.spec_uses.specs.Expressions.{keywords, raised_as, read, refused, uses, uses_in_generator, uses_in_rest, walked}
+use Rattle.spec_uses.specs.Expressions.{keywords, raised_as, refused, uses, uses_in_generator, uses_in_rest}
 
 -- ---- assigned names
 
@@ -54,12 +55,12 @@ abbrev mutual
 -- A target of a statement on the line n. A name that is assigned is not read.
 abbrev pub uses_in_target : Scope → ℕ → Expr → List Refusal
 uses_in_target s n (expr.name m x) = refused_if (is_private x) n Form
-uses_in_target s n (expr.attribute m e x) = refused_if (is_private x) m Form ++ uses read s e
-uses_in_target s n e = uses read s e
+uses_in_target s n (expr.attribute m e x) = refused_if (is_private x) m Form ++ uses Read s e
+uses_in_target s n e = uses Read s e
 
 abbrev pub uses_in_option : Scope → Option Expr → List Refusal
 uses_in_option s None = []
-uses_in_option s (Some e) = uses read s e
+uses_in_option s (Some e) = uses Read s e
 
 -- the arguments of a `raise` on the line n, which are neither keywords nor a generator
 abbrev pub uses_in_raise : Scope → ℕ → Option Arguments → List Refusal
@@ -68,18 +69,18 @@ uses_in_raise s n (Some (expr.generated g)) = refused n Form ++ uses_in_generato
 uses_in_raise s n (Some (expr.listed xs)) = refused_if (not (length (keywords xs) == 0)) n Form ++ uses_in_rest s xs
 
 abbrev pub uses_in_simple : Scope → Simple → List Refusal
-uses_in_simple s (simple.assign n d e) = uses_in_target s n d ++ uses read s e
+uses_in_simple s (simple.assign n d e) = uses_in_target s n d ++ uses Read s e
 uses_in_simple s (simple.annotate n d a e) = uses_in_target s n d ++ uses_in_option s e
-uses_in_simple s (simple.augment n d o e) = uses_in_target s n d ++ uses read s e
-uses_in_simple s (simple.evaluate n e) = uses read s e
+uses_in_simple s (simple.augment n d o e) = uses_in_target s n d ++ uses Read s e
+uses_in_simple s (simple.evaluate n e) = uses Read s e
 uses_in_simple s (simple.return n e) = uses_in_option s e
 uses_in_simple s (simple.pass n) = []
 uses_in_simple s (simple.break n) = []
 uses_in_simple s (simple.continue n) = []
-uses_in_simple s (simple.assert n c e) = uses read s c ++ uses_in_option s e
+uses_in_simple s (simple.assert n c e) = uses Read s c ++ uses_in_option s e
 uses_in_simple s (simple.reraise n) = []
 uses_in_simple s (simple.raise n x xs) = raised_as (s.meaning x) n ++ uses_in_raise s n xs
-uses_in_simple s (simple.delete n e) = uses read s e
+uses_in_simple s (simple.delete n e) = uses Read s e
 uses_in_simple s (simple.import n xs) = []
 uses_in_simple s (simple.import_from n x xs) = []
 
@@ -99,14 +100,14 @@ abbrev mutual
   uses_in_statement s (tree.simple x) = uses_in_simple s x
   uses_in_statement s (tree.def n x ps r b) = []
   uses_in_statement s (tree.class n x b) = []
-  uses_in_statement s (tree.if n c b bs d) = uses read s c ++ uses_in_block s b ++ uses_in_branches s bs ++ uses_in_block s d
-  uses_in_statement s (tree.while n c b d) = uses read s c ++ uses_in_block s b ++ uses_in_block s d
-  uses_in_statement s (tree.for n x e b d) = refused_if (is_private x) n Form ++ uses walked s e ++ uses_in_block s b ++ uses_in_block s d
+  uses_in_statement s (tree.if n c b bs d) = uses Read s c ++ uses_in_block s b ++ uses_in_branches s bs ++ uses_in_block s d
+  uses_in_statement s (tree.while n c b d) = uses Read s c ++ uses_in_block s b ++ uses_in_block s d
+  uses_in_statement s (tree.for n x e b d) = refused_if (is_private x) n Form ++ uses Walked s e ++ uses_in_block s b ++ uses_in_block s d
   uses_in_statement s (tree.try n b hs d) = uses_in_block s b ++ uses_in_handlers s hs ++ uses_in_block s d
 
   pub uses_in_branches : Scope → Branches → List Refusal
   uses_in_branches s tree.no_branch = []
-  uses_in_branches s (tree.branch n c b bs) = uses read s c ++ uses_in_block s b ++ uses_in_branches s bs
+  uses_in_branches s (tree.branch n c b bs) = uses Read s c ++ uses_in_block s b ++ uses_in_branches s bs
 
   pub uses_in_handlers : Scope → Handlers → List Refusal
   uses_in_handlers s tree.no_handler = []

@@ -20,3 +20,13 @@ pub enum Meaning {
     Exception,
     Unknown,
 }
+
+/// Where an expression stands.
+#[derive(Clone, Copy, Debug, PartialEq, Eq)]
+pub enum Place {
+    Read,
+    /// It is walked over, and may be a `range`.
+    Walked,
+    /// A call on this line, from 1, calls it.
+    Called(u32),
+}

@@ -12,20 +12,20 @@ returns-in_err-module c =
     let p = err_from_is_err_and c.from_residual-in_err-module.result c.from_residual-in_err-module.ensures.1 in
     rw (p.1, p.2) (blocks_refused c.args.text.now _ _ c.in_ok-tokens.ensures.1 c.in_err-module.ensures.parsed)
 
-pub returns-in_err-conditions : goal.returns-in_err-conditions
-returns-in_err-conditions c =
-    let p = err_from_is_err_and c.from_residual-in_err-conditions.result c.from_residual-in_err-conditions.ensures.1 in
-    rw (p.1, p.2) (contracts_refused c.args.text.now _ _ c.conditions.new.«module» _ c.in_ok-tokens.ensures.1 c.in_ok-module.ensures.parsed c.in_err-conditions.ensures.contracts)
+pub returns-in_err-contracts : goal.returns-in_err-contracts
+returns-in_err-contracts c =
+    let p = err_from_is_err_and c.from_residual-in_err-contracts.result c.from_residual-in_err-contracts.ensures.1 in
+    rw (p.1, p.2) (contracts_refused c.args.text.now _ _ c.conditions.new.«module» _ c.in_ok-tokens.ensures.1 c.in_ok-module.ensures.parsed c.in_err-contracts.ensures.contracts)
 
 pub returns-in_err-check_profile : goal.returns-in_err-check_profile
 returns-in_err-check_profile c =
     let p = err_from_is_err_and c.from_residual-in_err-check_profile.result c.from_residual-in_err-check_profile.ensures.1 in
-    rw (p.1, p.2) (names_refused c.args.text.now _ _ _ _ c.in_ok-tokens.ensures.1 c.in_ok-module.ensures.parsed c.in_ok-conditions.ensures.contracts c.in_ok-conditions.ensures.tree _ c.in_err-check_profile.ensures)
+    rw (p.1, p.2) (names_refused c.args.text.now _ _ _ _ c.in_ok-tokens.ensures.1 c.in_ok-module.ensures.parsed c.in_ok-contracts.ensures.contracts c.in_ok-contracts.ensures.tree _ c.in_err-check_profile.ensures)
 
 pub returns-in_err-functions : goal.returns-in_err-functions
 returns-in_err-functions c =
     let p = err_from_is_err_and c.from_residual-in_err-functions.result c.from_residual-in_err-functions.ensures.1 in
-    rw (p.1, p.2) (functions_refused c.args.text.now _ _ _ _ c.in_ok-tokens.ensures.1 c.in_ok-module.ensures.parsed c.in_ok-conditions.ensures.contracts c.in_ok-conditions.ensures.tree _ c.in_ok-check_profile.ensures _ c.in_err-functions.ensures)
+    rw (p.1, p.2) (functions_refused c.args.text.now _ _ _ _ c.in_ok-tokens.ensures.1 c.in_ok-module.ensures.parsed c.in_ok-contracts.ensures.contracts c.in_ok-contracts.ensures.tree _ c.in_ok-check_profile.ensures _ c.in_err-functions.ensures)
 
 pub returns : goal.returns
-returns c = functions_admitted c.args.text.now _ _ _ _ c.in_ok-tokens.ensures.1 c.in_ok-module.ensures.parsed c.in_ok-conditions.ensures.contracts c.in_ok-conditions.ensures.tree _ c.in_ok-check_profile.ensures _ c.in_ok-functions.ensures
+returns c = functions_admitted c.args.text.now _ _ _ _ c.in_ok-tokens.ensures.1 c.in_ok-module.ensures.parsed c.in_ok-contracts.ensures.contracts c.in_ok-contracts.ensures.tree _ c.in_ok-check_profile.ensures _ c.in_ok-functions.ensures

@@ -13,7 +13,7 @@ use Rattle.py_profile.proofs.doubles.told_of_methods.Goals as goal
 pub loop-s-init : goal.loop-s-init
 loop-s-init c =
     let m = c.args.module.now in
-    let marks : c.clear.new.self ≡ marks_of [] m.names = c.in_ok-clear.ensures {u = tt} ∙ ap (λ (n : ℕ). replicate n false) c.requires.size ∙ marks_none m.names in (
+    let marks : c.clear.new.self ≡ marks_of [] m.names = (c.in_ok-clear.ensures {u = tt}).cleared ∙ ap (λ (n : ℕ). replicate n false) c.requires.size ∙ marks_none m.names in (
       walk_begins method_doubles method_here methods_of m.names (shown_stmt m) c.args.body.now c.args.told c.clear.new.self marks,
       ap length marks ∙ marks_length [] m.names,
     )

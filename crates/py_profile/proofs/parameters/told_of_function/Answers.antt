@@ -15,7 +15,7 @@ use Rattle.py_profile.proofs.parameters.told_of_function.Goals as goal
 pub returns-clause-told : goal.returns-clause-told
 returns-clause-told c =
     let m = c.args.module.now in
-    let marks : c.clear.new.self ≡ marks_of [] m.names = c.in_ok-clear.ensures {u = tt} ∙ ap (λ (n : ℕ). replicate n false) c.requires.size ∙ marks_none m.names in
+    let marks : c.clear.new.self ≡ marks_of [] m.names = (c.in_ok-clear.ensures {u = tt}).cleared ∙ ap (λ (n : ℕ). replicate n false) c.requires.size ∙ marks_none m.names in
     let names : map (text_of m.names) c.in_ok-names.names.items ≡ names_of (parameters_tree m c.in-Def.parameters.items) = rw c.deref.ensures.value at (c.in_ok-names.ensures {u = tt}).texts in
     let repeated : c.are_repeated-is_repeated.result ≡ are_repeated [] (names_of (parameters_tree m c.in-Def.parameters.items)) = rw c.deref-2.ensures.value at c.are_repeated-is_repeated.ensures.repeated [] marks ∙ ap (are_repeated []) names in
     let hidden : c.are_private-is_private.result ≡ list_any is_private (names_of (parameters_tree m c.in-Def.parameters.items)) = rw c.deref-3.ensures.value at c.are_private-is_private.ensures ∙ ap (list_any is_private) names in

@@ -1,0 +1,4 @@
+pub mod Entering
+pub mod Repeating
+pub mod Variables
+pub mod Walking

@@ -1,0 +1,3 @@
+pub mod Repeating
+pub mod Showing
+pub mod Walking
