@@ -1,0 +1,4 @@
+pub mod Measures
+pub mod Turns
+pub mod Texts
+pub mod Bounds
