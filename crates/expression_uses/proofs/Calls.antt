@@ -7,8 +7,8 @@ use Rattle.spec_uses.specs.Expressions.{is_walk, uses, uses_in_arguments, uses_i
 use Rattle.py_tree.specs.declared.exprs.Argument.{Argument}
 use Rattle.py_tree.specs.Arena.{State, shown}
 use Rattle.py_tree.specs.Exprs.{argument_list_tree}
+use Rattle.name_scopes.proofs.Repeating.{no_argument}
 use Rattle.expression_uses.specs.Parts.{uses_in_second}
-use Rattle.expression_uses.proofs.Keywords.{no_argument}
 
 take_all : (n : ℕ) (xs : List Argument) → n ≡ length xs → take n xs ≡ xs
 take_all zero [] e = refl

@@ -1,13 +1,13 @@
 -- The keywords of calls.
-use Rattle.std.proofs.Common.{◌≡◌, ℕ, zero, suc, ◌+◌, ◌<◌, ◌≤◌, List, [], ◌∷◌, length, drop, get_or, slice_get, Some, None, refl, ap, arith, ◌∙◌}
+use Rattle.std.proofs.Common.{◌≡◌, ℕ, suc, ◌+◌, ◌<◌, List, [], ◌∷◌, length, drop, get_or, slice_get, Some, None, refl, ap, ◌∙◌}
 use Rattle.std.proofs.lemmas.Option.{get_or_from_slice_get}
 use Rattle.spec_trees.specs.Expr.{Expr}
 use Rattle.spec_uses.specs.Expressions.{count, keywords}
 use Rattle.py_tree.specs.declared.exprs.Argument.{Argument}
 use Rattle.py_tree.specs.declared.ids.NameId.{NameId}
-use Rattle.py_tree.specs.Exprs.{AreArgumentsBelow, IsNameBelow, argument_list_tree}
+use Rattle.py_tree.specs.Exprs.{argument_list_tree}
 use Rattle.py_tree.specs.Names.{text_of}
-use Rattle.told_refusals.proofs.Telling.{drop_all, drop_from}
+use Rattle.told_refusals.proofs.Telling.{drop_from}
 
 module _ (names : List (List ℕ)) (t : ℕ → Expr) where
   abbrev pub keywords_of : List Argument → List (List ℕ)
@@ -24,17 +24,5 @@ module _ (names : List (List ℕ)) (t : ℕ → Expr) where
     pub keyword_some : (n : NameId) → (get_or xs i d).name ≡ Some n → keywords_of (drop i xs) ≡ text_of names n ∷ keywords_of (drop (i + 1) xs)
     keyword_some n e = ap keywords_of (drop_from xs i d lt) ∙ rw e refl
 
-  pub keywords_end : (xs : List Argument) (i : ℕ) → length xs ≤ i → keywords_of (drop i xs) ≡ []
-  keywords_end xs i le = ap keywords_of (drop_all xs i le)
-
-pub keyword_there : (k n : ℕ) (xs : List Argument) (i : ℕ) (d : Argument) → AreArgumentsBelow k n xs → i < length xs → IsNameBelow k (get_or xs i d).name
-keyword_there k n [] i d h lt = absurd (omega arith)
-keyword_there k n (x ∷ xs) zero d h lt = h.0
-keyword_there k n (x ∷ xs) (suc i) d h lt = keyword_there k n xs i d h.2 (omega arith)
-
 pub text_is : (names : List (List ℕ)) (n : NameId) (x : List ℕ) → slice_get names n.index ≡ Some x → text_of names n ≡ x
 text_is names n x e = get_or_from_slice_get names n.index x [] e
-
--- the default of reads, which is never seen
-abbrev pub no_argument : Argument
-no_argument = record { name = None; value = record { index = 0 } }

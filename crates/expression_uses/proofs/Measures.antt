@@ -8,7 +8,7 @@ use Rattle.py_tree.specs.declared.exprs.GeneratorNode.{GeneratorNode}
 use Rattle.py_tree.specs.declared.exprs.Link.{Link}
 use Rattle.py_tree.specs.declared.exprs.Pair.{Pair}
 use Rattle.spec_trees.specs.declared.Operator.TheVariants.{Multiply}
-use Rattle.py_tree.specs.Exprs.{AreArgumentsBelow, AreItemsBelow, AreLinksBelow, ArePairsBelow, IsBoundBelow, IsCallBelow, IsGeneratorBelow}
+use Rattle.py_tree.specs.Exprs.{AreArgumentsBelow, AreItemsBelow, AreLinksBelow, ArePairsBelow, IsCallBelow, IsGeneratorBelow}
 
 abbrev pub above_items : List ExprId → ℕ
 above_items [] = 0
@@ -52,10 +52,6 @@ module _ (n : ℕ) where
   links_least [] h = omega arith
   links_least (x ∷ xs) h = let rest = links_least xs h.1 in omega (arith, h.0, rest)
 
-  pub bound_least : (o : Option ExprId) → IsBoundBelow n o → above_bound o ≤ n
-  bound_least None h = omega arith
-  bound_least (Some x) h = omega (arith, h)
-
 module _ (k n : ℕ) where
   pub arguments_least : (xs : List Argument) → AreArgumentsBelow k n xs → above_arguments xs ≤ n
   arguments_least [] h = omega arith
@@ -82,10 +78,6 @@ module _ (a b : ℕ) (le : a ≤ b) where
   pub links_up : (xs : List Link) → AreLinksBelow a xs → AreLinksBelow b xs
   links_up [] h = tt
   links_up (x ∷ xs) h = (omega (arith, h.0, le), links_up xs h.1)
-
-  pub bound_up : (o : Option ExprId) → IsBoundBelow a o → IsBoundBelow b o
-  bound_up None h = tt
-  bound_up (Some x) h = omega (arith, h, le)
 
   module _ (k : ℕ) where
     pub arguments_up : (xs : List Argument) → AreArgumentsBelow k a xs → AreArgumentsBelow k b xs

@@ -115,11 +115,11 @@ pub fn told_of_generator(
     let is_private = is_private(module.name_text(variable));
     let told = told_if(told, is_private, line, ProfileFault::Form);
     let told = told_of_expression(module, scope, Place::Walked, generator.iterable, told);
-    let was_local = scope.is_local(module, variable);
-    scope.set_local(module, variable, true);
+    let was_variable = scope.is_variable(variable);
+    scope.set_variable(variable, true);
     let told = told_of_expression(module, scope, Place::Read, generator.element, told);
     let told = told_of_items(module, scope, &generator.conditions, told);
-    scope.set_local(module, variable, was_local);
+    scope.set_variable(variable, was_variable);
     told
 }
 

@@ -1,4 +1,5 @@
 ghost use Rattle.std.specs.Prelude.{◌≡◌, length};
+ghost use Rattle.spec_names.specs.Headers.{is_self_first};
 ghost use Rattle.spec_uses.specs.Functions.{is_constructor};
 ghost use Rattle.py_tree.specs.Arena.{shown_stmt};
 ghost use Rattle.py_tree.specs.Stmts.{AreParametersThere, AreStmtsBelow, block_tree, parameters_tree};
@@ -16,6 +17,17 @@ pub struct Function {
 }
 
 impl Function {
+    /// The line of its `def`, from 1.
+    pub fn line(&self, module: &Module) -> u32
+        requires { IsThere «module».now self.now }
+        ensures { result ≡ (function_in «module».now self.now).line }
+    {
+        match module.stmt(self.statement) {
+            StmtNode::Def { line, .. } => *line,
+            _ => 0,
+        }
+    }
+
     /// Its name.
     pub fn name<'a>(&self, module: &'a Module) -> &'a str
         requires { IsThere «module».now self.now }
@@ -57,5 +69,16 @@ impl Function {
         ensures { result ≡ is_constructor (function_in «module».now self.now) }
     {
         self.class.is_some() && self.name(module) == "__init__"
+    }
+}
+
+/// Whether the first of these parameters is `self`.
+pub fn is_self_first(module: &Module, parameters: &[ParameterNode]) -> bool
+    requires { AreParametersThere «module».now parameters.now }
+    ensures { result ≡ is_self_first (parameters_tree «module».now parameters.now) }
+{
+    match parameters {
+        [first, ..] => module.name_text(first.name) == "self",
+        [] => false,
     }
 }

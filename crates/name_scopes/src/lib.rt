@@ -5,6 +5,7 @@
 #![tactic(auto)]
 
 mod keywords;
+mod lines;
 mod parameters;
 mod scope;
 #[cfg(test)]

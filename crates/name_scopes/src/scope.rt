@@ -1,16 +1,17 @@
-ghost use Rattle.std.specs.Prelude.{◌≡◌, ◌<◌, ◌++◌, [], length, get_or, slice_set, false, IfOk, OnOk, None, Some};
+ghost use Rattle.std.specs.Prelude.{◌≡◌, ◌<◌, ◌++◌, ◌&&◌, ◌||◌, [], length, get_or, slice_set, false, IfOk, OnOk, None, Some};
 ghost use Rattle.spec_names.specs.Names.{names_of};
 ghost use Rattle.spec_names.specs.Defined.{are_repeated};
 ghost use Rattle.spec_uses.specs.Expressions.{keywords};
 ghost use Rattle.spec_uses.specs.Meanings.{module_scope, with_locals};
 ghost use Rattle.spec_uses.specs.Statements.{assigned};
-ghost use Rattle.spec_uses.specs.ContractScopes.{meaning_behind, scope_of};
 ghost use Rattle.py_tree.specs.Arena.{module_tree, shown, shown_stmt};
 ghost use Rattle.py_tree.specs.Exprs.{AreArgumentsBelow, argument_list_tree};
+ghost use Rattle.py_tree.specs.Names.{text_of};
 ghost use Rattle.py_tree.specs.Stmts.{AreParametersThere, AreStmtsBelow, block_tree, parameters_tree};
-ghost use Rattle.name_scopes.specs.Showing.{IsScopeOf, IsSized, Shows, around, meaning_held, with_local};
+ghost use Rattle.name_scopes.specs.Showing.{HasParameters, IsScopeOf, IsSized, Shows, is_seen_in, meaning_held, old_held, with_variable};
 
 use crate::keywords::{add_keywords, leave_keywords};
+use crate::lines::{around, has_before, is_post, is_seen_in};
 use crate::parameters::add_parameters;
 use local_names::add_assigned;
 use name_meanings::Meanings;
@@ -27,13 +28,16 @@ use xh_outside::NoMemory;
 pub struct Scope {
     // what they stand for where none is local
     meanings: Meanings,
-    locals: NameSet,
-    // the parameters that `__old__` has
-    olds: NameSet,
+    // the parameters of a function, and in its body what it assigns
+    own: NameSet,
+    // the variables of the comprehensions around
+    inner: NameSet,
     // the keywords of one call, while they are compared
     seen: NameSet,
     // the kind of the contract line, or None in a body
     kind: Option<LineKind>,
+    // whether the function makes the objects of a class
+    is_constructor: bool,
 }
 
 impl Model for Scope {
@@ -41,22 +45,24 @@ impl Model for Scope {
 
     ghost Value = { Held };
 
-    ghost view = { λ s. record { meanings = s.meanings; locals = s.locals; olds = s.olds; seen = s.seen; kind = s.kind } };
+    ghost view = { λ s. record { meanings = s.meanings; own = s.own; inner = s.inner; seen = s.seen; kind = s.kind; is_constructor = s.is_constructor } };
 }
 
 impl Scope {
     /// The scope of a module with no name local. It takes time linear in the number of names and definitions. The only error
     /// is that there is no memory for it.
     pub fn new(alloc: Global, module: &Module) -> Result<Scope, NoMemory>
-        ensures { IfOk result (λ h. IsScopeOf «module».now h) }
+        ensures scope { IfOk result (IsScopeOf «module».now) }
+        ensures shows { IfOk result (λ h. Shows «module».now.names h (module_scope (module_tree «module».now).body)) }
     {
         let names = module.names_count();
         Ok(Scope {
             meanings: Meanings::new(alloc, module)?,
-            locals: NameSet::new(alloc, names)?,
-            olds: NameSet::new(alloc, names)?,
+            own: NameSet::new(alloc, names)?,
+            inner: NameSet::new(alloc, names)?,
             seen: NameSet::new(alloc, names)?,
             kind: None,
+            is_constructor: false,
         })
     }
 
@@ -74,41 +80,49 @@ impl Scope {
         ensures scope { OnOk result (IsScopeOf «module».now self.new) }
         ensures shows { OnOk result (Shows «module».now.names self.new (with_locals (names_of (parameters_tree «module».now parameters.now) ++ assigned (block_tree (shown_stmt «module».now) body.now)) (module_scope (module_tree «module».now).body))) }
     {
-        self.locals.clear()?;
-        self.olds.clear()?;
+        self.own.clear()?;
         self.kind = None;
-        add_parameters(module, parameters, false, &mut self.locals);
-        add_assigned(module, body, &mut self.locals);
+        self.is_constructor = false;
+        add_parameters(module, parameters, &mut self.own);
+        add_assigned(module, body, &mut self.own);
         Ok(())
     }
 
-    /// Makes the scope that of a contract line of a function with these parameters, which may be a constructor. A contract
-    /// line of a class has no parameters. It takes time linear in the number of parameters. The only error is that there is
-    /// no memory for it.
-    pub fn enter_line(
+    /// Makes the names of a function those of the scope, for its contract lines. What owns the contract lines of a class has
+    /// no parameters. It takes time linear in the number of parameters. The only error is that there is no memory for it.
+    pub fn enter_function(
         &mut self,
         module: &Module,
-        kind: LineKind,
         is_constructor: bool,
         parameters: &[ParameterNode],
     ) -> Result<(), NoMemory>
         requires parameters { AreParametersThere «module».now parameters.now }
         requires scope { IsScopeOf «module».now self.old }
         ensures scope { OnOk result (IsScopeOf «module».now self.new) }
-        ensures shows { OnOk result (Shows «module».now.names self.new (scope_of kind is_constructor (names_of (parameters_tree «module».now parameters.now)) (module_scope (module_tree «module».now).body))) }
+        ensures has { OnOk result (HasParameters «module».now.names self.new is_constructor (names_of (parameters_tree «module».now parameters.now))) }
     {
-        self.locals.clear()?;
-        self.olds.clear()?;
-        self.kind = Some(kind);
-        match kind {
-            LineKind::Pre => add_parameters(module, parameters, is_constructor, &mut self.locals),
-            LineKind::Post => {
-                add_parameters(module, parameters, false, &mut self.locals);
-                add_parameters(module, parameters, is_constructor, &mut self.olds);
-            }
-            LineKind::Raises | LineKind::Invariant => {}
-        }
+        self.own.clear()?;
+        self.is_constructor = is_constructor;
+        add_parameters(module, parameters, &mut self.own);
         Ok(())
+    }
+
+    /// Makes the scope that of a contract line of the function that was entered last. It takes constant time.
+    pub fn enter_line(&mut self, kind: LineKind)
+        ensures { self.new ≡ record self.old { kind = Some kind } }
+    {
+        self.kind = Some(kind);
+    }
+
+    // Whether a name is local, if it has this text.
+    fn is_local(&self, name: NameId, text: &str) -> bool
+        requires own { name.index < length self.now.own }
+        requires inner { name.index < length self.now.inner }
+        ensures { result ≡ get_or self.now.inner name.index false || (get_or self.now.own name.index false && is_seen_in self.now.kind self.now.is_constructor text.now) }
+    {
+        let is_variable = self.inner.contains(name);
+        let is_own = self.own.contains(name);
+        is_variable || (is_own && is_seen_in(self.kind, self.is_constructor, text))
     }
 
     /// What a name of the module stands for.
@@ -117,10 +131,11 @@ impl Scope {
         requires sized { IsSized «module».now.names self.now }
         ensures { result ≡ meaning_held «module».now.names self.now name }
     {
-        if self.locals.contains(name) {
+        let text = module.name_text(name);
+        if self.is_local(name, text) {
             Meaning::Local
         } else {
-            around(self.kind, self.meanings.get(name), module.name_text(name))
+            around(self.kind, self.meanings.get(name), text)
         }
     }
 
@@ -128,27 +143,27 @@ impl Scope {
     pub fn is_old(&self, module: &Module, name: NameId) -> bool
         requires name { name.index < length «module».now.names }
         requires sized { IsSized «module».now.names self.now }
-        ensures { result ≡ get_or self.now.olds name.index false }
+        ensures { result ≡ old_held «module».now.names self.now name }
     {
-        self.olds.contains(name)
+        let is_own = self.own.contains(name);
+        let is_before = has_before(self.is_constructor, module.name_text(name));
+        is_post(self.kind) && is_own && is_before
     }
 
-    /// Whether a name is local.
-    pub fn is_local(&self, module: &Module, name: NameId) -> bool
-        requires name { name.index < length «module».now.names }
-        requires sized { IsSized «module».now.names self.now }
-        ensures { result ≡ get_or self.now.locals name.index false }
+    /// Whether a name is the variable of a comprehension around.
+    pub fn is_variable(&self, name: NameId) -> bool
+        requires { name.index < length self.now.inner }
+        ensures { result ≡ get_or self.now.inner name.index false }
     {
-        self.locals.contains(name)
+        self.inner.contains(name)
     }
 
-    /// Makes a name local, or no longer.
-    pub fn set_local(&mut self, module: &Module, name: NameId, is_local: bool)
-        requires name { name.index < length «module».now.names }
-        requires sized { IsSized «module».now.names self.old }
-        ensures { self.new ≡ with_local self.old name is_local }
+    /// Makes a name the variable of a comprehension around, or no longer.
+    pub fn set_variable(&mut self, name: NameId, is_variable: bool)
+        requires { name.index < length self.old.inner }
+        ensures { self.new ≡ with_variable self.old name is_variable }
     {
-        self.locals.set(name, is_local);
+        self.inner.set(name, is_variable);
     }
 
     /// Whether two of these arguments have one keyword. It takes time linear in the number of arguments.
@@ -161,27 +176,5 @@ impl Scope {
         let is_repeated = add_keywords(module, arguments, &mut self.seen);
         leave_keywords(module, arguments, &mut self.seen);
         is_repeated
-    }
-}
-
-// What a name stands for that is not local, where its meaning in the module is given.
-fn around(kind: Option<LineKind>, meaning: Meaning, name: &str) -> Meaning
-    ensures { result ≡ around kind meaning name.now }
-{
-    match kind {
-        Some(LineKind::Post) => meaning_behind(meaning, name),
-        Some(LineKind::Invariant) if name == "self" => Meaning::Local,
-        _ => meaning,
-    }
-}
-
-// What a name stands for in a post line where it is not local.
-fn meaning_behind(meaning: Meaning, name: &str) -> Meaning
-    ensures { result ≡ meaning_behind (λ _. meaning) name.now }
-{
-    match name {
-        "__return__" | "_" => Meaning::Result,
-        "__old__" => Meaning::Old,
-        _ => meaning,
     }
 }

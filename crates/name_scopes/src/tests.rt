@@ -37,6 +37,14 @@ fn meaning(scope: &Scope, module: &Module, index: usize) -> Meaning
     scope.meaning(module, NameId { index })
 }
 
+/// Whether `__old__` has a name.
+fn is_old(scope: &Scope, module: &Module, index: usize) -> bool
+    requires name { index < length «module».now.names }
+    requires sized { IsSized «module».now.names scope.now }
+{
+    scope.is_old(module, NameId { index })
+}
+
 /// Adds a statement that assigns a name.
 fn add_assignment(module: &mut Module, name: NameId) -> Result<StmtId, NoMemory>
     requires { name.index < length «module».old.names }
@@ -88,44 +96,55 @@ fn a_post_line_has_the_result_and_the_arguments(rt: HostRuntime) -> Result<(), F
     let module = named(rt.alloc(), &["x", "_", "__old__"])?;
     assert!(rt; module.names_count() == 3);
     let mut scope = Scope::new(rt.alloc(), &module)?;
-    scope.enter_line(&module, LineKind::Post, false, &[parameter(0)])?;
+    scope.enter_function(&module, false, &[parameter(0)])?;
+    scope.enter_line(LineKind::Post);
     assert!(rt; meaning(&scope, &module, 0) == Meaning::Local);
     assert!(rt; meaning(&scope, &module, 1) == Meaning::Result);
     assert!(rt; meaning(&scope, &module, 2) == Meaning::Old);
-    assert!(rt; scope.is_old(&module, NameId { index: 0 }));
-    scope.enter_line(&module, LineKind::Post, false, &[parameter(1)])?;
+    assert!(rt; is_old(&scope, &module, 0));
+    scope.enter_function(&module, false, &[parameter(1)])?;
     assert!(rt; meaning(&scope, &module, 1) == Meaning::Local);
-    assert!(rt; !scope.is_old(&module, NameId { index: 0 }));
+    assert!(rt; !is_old(&scope, &module, 0));
     Ok(())
 }
 
 #[test]
-fn nothing_before_the_body_of_a_constructor_has_self(rt: HostRuntime) -> Result<(), Fail> {
+fn the_lines_of_one_function_each_see_what_their_kind_does(rt: HostRuntime) -> Result<(), Fail> {
     let module = named(rt.alloc(), &["self", "x", "__return__"])?;
     assert!(rt; module.names_count() == 3);
-    let parameters = [parameter(0), parameter(1)];
     let mut scope = Scope::new(rt.alloc(), &module)?;
-    scope.enter_line(&module, LineKind::Pre, true, &parameters)?;
+    scope.enter_function(&module, true, &[parameter(0), parameter(1)])?;
+    scope.enter_line(LineKind::Pre);
     assert!(rt; meaning(&scope, &module, 0) == Meaning::Unknown);
     assert!(rt; meaning(&scope, &module, 1) == Meaning::Local);
     assert!(rt; meaning(&scope, &module, 2) == Meaning::Unknown);
-    scope.enter_line(&module, LineKind::Post, true, &parameters)?;
+    assert!(rt; !is_old(&scope, &module, 1));
+    scope.enter_line(LineKind::Post);
     assert!(rt; meaning(&scope, &module, 0) == Meaning::Local);
-    assert!(rt; !scope.is_old(&module, NameId { index: 0 }));
-    scope.enter_line(&module, LineKind::Invariant, false, &[])?;
+    assert!(rt; meaning(&scope, &module, 2) == Meaning::Result);
+    assert!(rt; !is_old(&scope, &module, 0));
+    assert!(rt; is_old(&scope, &module, 1));
+    scope.enter_line(LineKind::Raises);
+    assert!(rt; meaning(&scope, &module, 1) == Meaning::Unknown);
+    scope.enter_line(LineKind::Invariant);
     assert!(rt; meaning(&scope, &module, 0) == Meaning::Local);
+    assert!(rt; meaning(&scope, &module, 1) == Meaning::Unknown);
     Ok(())
 }
 
 #[test]
-fn a_name_is_local_for_a_while(rt: HostRuntime) -> Result<(), Fail> {
-    let module = named(rt.alloc(), &["x"])?;
+fn a_variable_is_local_where_a_parameter_is_not(rt: HostRuntime) -> Result<(), Fail> {
+    let module = named(rt.alloc(), &["self"])?;
     assert!(rt; module.names_count() == 1);
+    let name = NameId { index: 0 };
     let mut scope = Scope::new(rt.alloc(), &module)?;
-    let x = NameId { index: 0 };
-    scope.set_local(&module, x, true);
-    assert!(rt; scope.is_local(&module, x));
-    scope.set_local(&module, x, false);
-    assert!(rt; !scope.is_local(&module, x));
+    scope.enter_function(&module, true, &[parameter(0)])?;
+    scope.enter_line(LineKind::Pre);
+    assert!(rt; !scope.is_variable(name));
+    scope.set_variable(name, true);
+    assert!(rt; scope.is_variable(name));
+    assert!(rt; meaning(&scope, &module, 0) == Meaning::Local);
+    scope.set_variable(name, false);
+    assert!(rt; meaning(&scope, &module, 0) == Meaning::Unknown);
     Ok(())
 }

@@ -1,18 +1,15 @@
 -- Statements and names that are there.
-use Rattle.std.proofs.Common.{◌≡◌, ℕ, zero, suc, ◌+◌, ◌<◌, ◌≤◌, List, [], ◌∷◌, ◌++◌, length, drop, drop-cons, map, take, get_or, slice_get, Some, refl, ap, arith, ◌∙◌, sym}
+use Rattle.std.proofs.Common.{◌≡◌, ℕ, zero, suc, ◌+◌, ◌<◌, List, [], ◌∷◌, ◌++◌, length, drop, drop-cons, map, take, get_or, refl, ap, arith, ◌∙◌, sym}
 use Rattle.std.proofs.lemmas.Grind.{common_steps}
 use Rattle.std.proofs.lemmas.List.{map-append, take_more}
-use Rattle.std.proofs.lemmas.Option.{get_or_from_slice_get}
 use Rattle.py_tree.specs.declared.ids.NameId.{NameId}
 use Rattle.py_tree.specs.declared.ids.StmtId.{StmtId}
 use Rattle.py_tree.specs.declared.stmts.ParameterNode.{ParameterNode}
-use Rattle.std.specs.Prelude.{codes}
-use Rattle.std.specs.Str.{bytes_eq}
 use Rattle.spec_names.specs.Names.{names_of}
-use Rattle.spec_names.specs.Headers.{is_self_first}
 use Rattle.py_tree.specs.Arena.{State}
 use Rattle.py_tree.specs.Names.{AreNamesBelow, text_of}
 use Rattle.py_tree.specs.Stmts.{AreParametersThere, AreStmtsBelow, parameters_tree}
+use Rattle.name_scopes.proofs.Entering.{parameter_below}
 
 -- the default of reads, which is never seen
 abbrev pub no_statement : StmtId
@@ -27,11 +24,6 @@ pub name_below : (n : ℕ) (xs : List NameId) (i : ℕ) (d : NameId) → AreName
 name_below n [] i d h lt = absurd (omega arith)
 name_below n (x ∷ xs) zero d h lt = h.0
 name_below n (x ∷ xs) (suc i) d h lt = name_below n xs i d h.1 (omega arith)
-
-pub parameter_below : (m : State) (xs : List ParameterNode) (i : ℕ) (d : ParameterNode) → AreParametersThere m xs → i < length xs → (get_or xs i d).name.index < length m.names
-parameter_below m [] i d h lt = absurd (omega arith)
-parameter_below m (x ∷ xs) zero d h lt = h.0
-parameter_below m (x ∷ xs) (suc i) d h lt = parameter_below m xs i d h.3 (omega arith)
 
 -- ---- names that are put together
 
@@ -62,14 +54,3 @@ texts_of_ids m (p ∷ ps) = ap (λ (v : List (List ℕ)). text_of m.names p.name
 
 pub names_from : (xs : List NameId) (i : ℕ) (x : NameId) → i < length xs → drop i xs ≡ get_or xs i x ∷ drop (i + 1) xs
 names_from xs i x lt = grind (arith, common_steps, drop-cons)
-
-pub names_end : (xs : List NameId) (i : ℕ) → length xs ≤ i → drop i xs ≡ []
-names_end [] zero le = refl
-names_end [] (suc i) le = refl
-names_end (x ∷ xs) zero le = absurd (omega arith)
-names_end (x ∷ xs) (suc i) le = names_end xs i (omega arith)
-
--- whether the first parameter has a name
-pub first_is : (m : State) (ps : List ParameterNode) (d : ParameterNode) (t : List ℕ) → 1 ≤ length ps → slice_get m.names (get_or ps zero d).name.index ≡ Some t → bytes_eq t (codes "self") ≡ is_self_first (parameters_tree m ps)
-first_is m [] d t le e = absurd (omega arith)
-first_is m (p ∷ ps) d t le e = ap (λ (v : List ℕ). bytes_eq v (codes "self")) (sym (get_or_from_slice_get m.names p.name.index t [] e))

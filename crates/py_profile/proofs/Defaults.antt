@@ -1,12 +1,11 @@
 -- The defaults of parameters, one after the other.
-use Rattle.std.proofs.Common.{◌≡◌, ℕ, zero, suc, ◌+◌, ◌<◌, ◌≤◌, Bool, true, false, ◌&&◌, ◌||◌, List, [], ◌∷◌, ◌++◌, length, drop, drop-cons, append-nil, get_or, Option, Some, None, refl, sym, ap, arith, ◌∙◌}
+use Rattle.std.proofs.Common.{◌≡◌, ℕ, zero, suc, ◌+◌, ◌<◌, Bool, true, false, ◌&&◌, ◌||◌, List, [], ◌∷◌, ◌++◌, length, drop, drop-cons, get_or, Option, Some, None, refl, sym, ap, arith, ◌∙◌}
 use Rattle.std.specs.Prelude.{not}
 use Rattle.std.specs.Option.{is_some}
 use Rattle.std.proofs.lemmas.Grind.{common_steps}
 use Rattle.std.proofs.lemmas.List.{append_assoc}
 use Rattle.spec_trees.specs.Stmt.{Parameter}
 use Rattle.spec_names.specs.declared.Refusal.{Refusal}
-use Rattle.spec_names.specs.Refusals.{first_refusal}
 use Rattle.spec_names.specs.Parameters.{all_default_refusals, are_misordered, default_refusals}
 use Rattle.py_tree.specs.declared.ids.ExprId.{ExprId}
 use Rattle.py_tree.specs.declared.stmts.ParameterNode.{ParameterNode}
@@ -14,7 +13,7 @@ use Rattle.py_tree.specs.Arena.{State}
 use Rattle.py_tree.specs.Exprs.{IsBoundBelow}
 use Rattle.py_tree.specs.Stmts.{AreParametersThere, optional_expr, parameters_tree}
 use Rattle.told_refusals.specs.Telling.{Tells}
-use Rattle.told_refusals.proofs.Telling.{tells_none, tells_then}
+use Rattle.told_refusals.proofs.Telling.{tells_then}
 
 -- a parameter, and those behind it
 pub parameters_from : (ps : List ParameterNode) (i : ℕ) (d : ParameterNode) → i < length ps → drop i ps ≡ get_or ps i d ∷ drop (i + 1) ps
@@ -25,12 +24,6 @@ default_below m [] i d h lt = absurd (omega arith)
 default_below m (p ∷ ps) zero d h lt = h.2
 default_below m (p ∷ ps) (suc i) d h lt = default_below m ps i d h.3 (omega arith)
 
-drop_all : (xs : List ParameterNode) (i : ℕ) → length xs ≤ i → drop i xs ≡ []
-drop_all [] zero le = refl
-drop_all [] (suc i) le = refl
-drop_all (x ∷ xs) zero le = absurd (omega arith)
-drop_all (x ∷ xs) (suc i) le = drop_all xs i (omega arith)
-
 -- ---- defaults that are no constants
 
 -- what the defaults before the place i add is told
@@ -40,9 +33,6 @@ pub record DefaultsTo (m : State) (ps : List ParameterNode) (old new : Option Re
   pub rest : all_default_refusals (parameters_tree m ps) ≡ so_far ++ all_default_refusals (parameters_tree m (drop i ps))
 
 module _ (m : State) (ps : List ParameterNode) (old : Option Refusal) where
-  pub defaults_begin : DefaultsTo m ps old old 0
-  defaults_begin = record { so_far = []; told = tells_none old; rest = refl }
-
   module _ (now : Option Refusal) (i : ℕ) (h : DefaultsTo m ps old now i) where
     pub defaults_more : (new : Option Refusal) (d : ParameterNode) → i < length ps → Tells now new (default_refusals (optional_expr m (get_or ps i d).default)) → DefaultsTo m ps old new (i + 1)
     defaults_more new d lt told =
@@ -52,9 +42,6 @@ module _ (m : State) (ps : List ParameterNode) (old : Option Refusal) where
           told = tells_then old now new h.so_far here h.told told;
           rest = h.rest ∙ ap (λ (v : List ParameterNode). h.so_far ++ all_default_refusals (parameters_tree m v)) (parameters_from ps i d lt) ∙ sym (append_assoc h.so_far here (all_default_refusals (parameters_tree m (drop (i + 1) ps))));
         }
-
-    pub defaults_end : length ps ≤ i → Tells old now (all_default_refusals (parameters_tree m ps))
-    defaults_end le = λ rs e. h.told rs e ∙ ap (λ (v : List Refusal). first_refusal (rs ++ v)) (sym (h.rest ∙ ap (λ (v : List ParameterNode). h.so_far ++ all_default_refusals (parameters_tree m v)) (drop_all ps i le) ∙ append-nil h.so_far))
 
 -- ---- parameters that are out of order
 
@@ -80,15 +67,8 @@ module _ (m : State) (ps : List ParameterNode) (i : ℕ) (d : ParameterNode) (b 
   here = h ∙ ap (λ (v : List ParameterNode). misordered_behind b (parameters_tree m v)) (parameters_from ps i d lt)
       ∙ ap (λ (t : Bool). (b && not t) || misordered_behind t (parameters_tree m (drop (i + 1) ps))) (has_default m (get_or ps i d).default)
 
-  pub one_misordered : b ≡ true → is_some (get_or ps i d).default ≡ false → are_misordered (parameters_tree m ps) ≡ true
-  one_misordered is none = here ∙ rw (is, none) refl
-
   pub none_misordered : (b && not (is_some (get_or ps i d).default)) ≡ false → are_misordered (parameters_tree m ps) ≡ misordered_behind (is_some (get_or ps i d).default) (parameters_tree m (drop (i + 1) ps))
   none_misordered not_here = here ∙ ap (λ (t : Bool). t || misordered_behind (is_some (get_or ps i d).default) (parameters_tree m (drop (i + 1) ps))) not_here
-
--- the default of reads, which is never seen
-abbrev pub no_parameter : ParameterNode
-no_parameter = record { name = record { index = 0 }; annotation = None; default = None }
 
 pub not_both : (a : Bool) (o : Option ExprId) → is_some o ≡ true → (a && not (is_some o)) ≡ false
 not_both true None e = absurd cc

@@ -1,5 +1,5 @@
 -- The names of a list, one after the other.
-use Rattle.std.proofs.Common.{◌≡◌, ℕ, ◌+◌, ◌<◌, ◌≤◌, Bool, true, false, ◌||◌, List, [], ◌∷◌, length, drop, map, get_or, slice_get, slice_set, Some, refl, sym, ap, ◌∙◌}
+use Rattle.std.proofs.Common.{◌≡◌, ℕ, ◌+◌, ◌<◌, Bool, true, false, ◌||◌, List, [], ◌∷◌, length, drop, map, get_or, slice_get, slice_set, Some, refl, sym, ap, ◌∙◌}
 use Rattle.std.specs.List.{list_any}
 use Rattle.std.proofs.lemmas.Option.{get_or_from_slice_get}
 use Rattle.spec_contracts.specs.ContractLines.{is_among}
@@ -8,7 +8,7 @@ use Rattle.py_tree.specs.declared.ids.NameId.{NameId}
 use Rattle.py_tree.specs.Names.{AreDistinct, text_of}
 use Rattle.name_sets.specs.Marks.{marks_of}
 use Rattle.name_sets.proofs.Marks.{mark_at, marks_more}
-use Rattle.py_profile.proofs.Below.{names_end, names_from}
+use Rattle.py_profile.proofs.Below.{names_from}
 
 -- the default of reads, which is never seen
 abbrev pub no_name : NameId
@@ -44,9 +44,6 @@ pub record RepeatedTo (names : List (List ℕ)) (xs : List NameId) (earlier : Li
   pub repeated : are_repeated earlier (map (text_of names) xs) ≡ (told || are_repeated so_far (map (text_of names) (drop i xs)))
 
 module _ (names : List (List ℕ)) (xs : List NameId) (earlier : List (List ℕ)) where
-  pub repeated_begins : (set : List Bool) → set ≡ marks_of earlier names → RepeatedTo names xs earlier set false 0
-  repeated_begins set e = record { so_far = earlier; marks = e; added = refl; repeated = refl }
-
   module _ (set : List Bool) (told : Bool) (i : ℕ) (h : RepeatedTo names xs earlier set told i) where
     pub repeated_more : (d : NameId) (is_there new : Bool) → AreDistinct names → i < length xs → (get_or xs i d).index < length names
         → slice_get set (get_or xs i d).index ≡ Some is_there → new ≡ (told || is_there) → RepeatedTo names xs earlier (slice_set set (get_or xs i d).index true) new (i + 1)
@@ -66,17 +63,6 @@ module _ (names : List (List ℕ)) (xs : List NameId) (earlier : List (List ℕ)
         or_assoc : (a b c : Bool) → (a || (b || c)) ≡ ((a || b) || c)
         or_assoc true b c = refl
         or_assoc false b c = refl
-
-    pub repeated_ends : length xs ≤ i → (told ≡ are_repeated earlier (map (text_of names) xs)) × (set ≡ marks_of (onto earlier (map (text_of names) xs)) names)
-    repeated_ends le =
-        let all = names_end xs i le in (
-          sym (h.repeated ∙ ap (λ (v : List NameId). told || are_repeated h.so_far (map (text_of names) v)) all ∙ or_false told),
-          h.marks ∙ ap (λ (v : List (List ℕ)). marks_of v names) (sym (h.added ∙ ap (λ (v : List NameId). onto h.so_far (map (text_of names) v)) all)),
-        )
-      where
-        or_false : (a : Bool) → (a || false) ≡ a
-        or_false true = refl
-        or_false false = refl
 
 pub told_there : (a b r : Bool) → b ≡ true → r ≡ true → r ≡ (a || b)
 told_there true b r e f = f

@@ -1,13 +1,20 @@
 -- The functions that own contract lines, and what is told of them.
-use Rattle.std.proofs.Common.{ℕ, zero, suc, ◌<◌, List, [], ◌∷◌, length, get_or, slice_get, Option, Some, None, arith}
+use Rattle.std.proofs.Common.{ℕ, zero, suc, ◌<◌, false, List, [], ◌∷◌, length, get_or, slice_get, Option, Some, None, arith}
+use Rattle.spec_contracts.specs.declared.LineKind.{LineKind}
 use Rattle.spec_contracts.specs.declared.LineKind.TheVariants.{Pre}
+use Rattle.spec_names.specs.Names.{names_of}
+use Rattle.spec_uses.specs.ContractScopes.{scope_at}
+use Rattle.spec_uses.specs.Functions.{FunctionOf, is_constructor}
+use Rattle.spec_uses.specs.Meanings.{module_scope}
 use Rattle.contract_owners.specs.declared.listing.Owner.TheVariants as owner
-use Rattle.py_tree.specs.Arena.{State}
+use Rattle.py_tree.specs.Arena.{State, module_tree}
 use Rattle.contract_lines.specs.declared.contracts.ContractLine.{ContractLine}
 use Rattle.contract_lines.specs.Given.{AreLinesThere, IsLineThere}
 use Rattle.module_functions.specs.declared.function.Function.{Function}
 use Rattle.module_functions.specs.Listed.{AreThere, IsThere}
-use Rattle.py_profile.specs.Owning.{IsThereIf}
+use Rattle.name_scopes.specs.Showing.{Held, IsScopeOf, Shows}
+use Rattle.name_scopes.proofs.Entering.{shows_line}
+use Rattle.py_profile.specs.Owning.{HasFunction, IsThereIf}
 
 pub function_there : (m : State) (fs : List Function) (i : ℕ) (d : Function) → AreThere m fs → i < length fs → IsThere m (get_or fs i d)
 function_there m [] i d h lt = absurd (omega arith)
@@ -28,6 +35,13 @@ pub line_there : (m : State) (ls : List ContractLine) (i : ℕ) → AreLinesTher
 line_there m [] i h = tt
 line_there m (l ∷ ls) zero h = h.0
 line_there m (l ∷ ls) (suc i) h = line_there m ls i h.1
+
+-- ---- the scopes of contract lines
+
+-- a line of the function that was entered last has its scope
+pub shows_at : (m : State) (h : Held) (kind : LineKind) (o : Option FunctionOf) → IsScopeOf m h → HasFunction m h o → Shows m.names (record h { kind = Some kind }) (scope_at kind o (module_scope (module_tree m).body))
+shows_at m h kind None scope has = shows_line m h false [] scope has kind
+shows_at m h kind (Some f) scope has = shows_line m h (is_constructor f) (names_of f.parameters) scope has kind
 
 -- the defaults of reads, which are never seen
 abbrev pub no_function : Function

@@ -1,5 +1,5 @@
 -- What is told of the names that a block defines, one statement after the other.
-use Rattle.std.proofs.Common.{◌≡◌, ℕ, ◌+◌, ◌≤◌, Bool, List, [], ◌++◌, length, drop, append-nil, slice_get, Option, Some, refl, sym, ap, ◌∙◌}
+use Rattle.std.proofs.Common.{◌≡◌, ℕ, ◌+◌, Bool, List, [], ◌++◌, drop, slice_get, Option, Some, refl, sym, ap, ◌∙◌}
 use Rattle.std.specs.List.{list_any}
 use Rattle.std.proofs.lemmas.List.{append_assoc}
 use Rattle.spec_trees.specs.Module as tree
@@ -9,7 +9,7 @@ use Rattle.spec_names.specs.Lines.{line_of}
 use Rattle.spec_names.specs.Names.{names_of}
 use Rattle.spec_names.specs.declared.ProfileFault.TheVariants.{Duplicate, Form}
 use Rattle.spec_names.specs.declared.Refusal.{Refusal}
-use Rattle.spec_names.specs.Refusals.{first_refusal, refused_if}
+use Rattle.spec_names.specs.Refusals.{refused_if}
 use Rattle.spec_names.specs.Names.{is_given, is_private}
 use Rattle.spec_names.specs.Members.{member_of, method_of, methods_in, statement_refusals}
 use Rattle.spec_names.specs.Defined.{are_repeated, defined_by, doubles, doubles_behind, method_doubles, onto}
@@ -19,9 +19,9 @@ use Rattle.spec_names.specs.Definitions.{definition_refusals}
 use Rattle.py_tree.specs.declared.ids.StmtId.{StmtId}
 use Rattle.py_tree.specs.Stmts.{block_tree}
 use Rattle.name_sets.specs.Marks.{marks_of}
+use Rattle.name_meanings.proofs.Tables.{stmts_from}
 use Rattle.told_refusals.specs.Telling.{Tells}
 use Rattle.told_refusals.proofs.Telling.{tells_none, tells_then}
-use Rattle.py_profile.proofs.Telling.{stmts_end, stmts_from}
 
 -- the refusals of a block behind names, those of a statement behind names, and the names that it defines
 module _ (walk : List (List ℕ) → Block → List Refusal) (here : List (List ℕ) → Statement → List Refusal) (defined : Statement → List (List ℕ)) where
@@ -51,9 +51,6 @@ module _ (walk : List (List ℕ) → Block → List Refusal) (here : List (List 
                 ∙ sym (append_assoc h.so_far (here h.earlier (t s.index)) (walk (onto h.earlier (defined (t s.index))) behind));
           }
 
-      pub walk_ends : ((e : List (List ℕ)) → walk e tree.no_statement ≡ []) → length xs ≤ i → Tells old now (walk [] (block_tree t xs))
-      walk_ends none le = λ rs e. h.told rs e ∙ ap (λ (v : List Refusal). first_refusal (rs ++ v)) (sym (h.rest ∙ ap (λ (b : Block). h.so_far ++ walk h.earlier b) (stmts_end t xs i le) ∙ ap (λ (v : List Refusal). h.so_far ++ v) (none h.earlier) ∙ append-nil h.so_far))
-
 -- ---- the methods of a class
 
 abbrev pub methods_of : Statement → List (List ℕ)
@@ -64,9 +61,6 @@ method_here e s = refused_if (are_repeated e (methods_of s)) (line_of s) Duplica
 
 pub method_step : (e : List (List ℕ)) (s : Statement) (b : Block) → method_doubles e (tree.statement s b) ≡ method_here e s ++ method_doubles (onto e (methods_of s)) b
 method_step e s b = refl
-
-pub method_none : (e : List (List ℕ)) → method_doubles e tree.no_statement ≡ []
-method_none e = refl
 
 pub method_told : (e : List (List ℕ)) (s : Statement) (repeated : Bool) (n : ℕ) (t u : Option Refusal) → repeated ≡ are_repeated e (methods_of s) → n ≡ line_of s
     → Tells t u (refused_if repeated n Duplicate) → Tells t u (method_here e s)
@@ -82,9 +76,6 @@ member_here e s = refused_if (are_repeated e (members_of s)) (line_of s) Duplica
 
 pub member_step : (e : List (List ℕ)) (s : Statement) (b : Block) → doubles_behind e (tree.statement s b) ≡ member_here e s ++ doubles_behind (onto e (members_of s)) b
 member_step e s b = refl
-
-pub member_none : (e : List (List ℕ)) → doubles_behind e tree.no_statement ≡ []
-member_none e = refl
 
 pub member_told : (e : List (List ℕ)) (s : Statement) (b : Block) (repeated given : Bool) (n : ℕ) (t u v w : Option Refusal) → repeated ≡ are_repeated e (members_of s) → given ≡ list_any is_given (members_of s) → n ≡ line_of s → b ≡ methods_in s
     → Tells t u (refused_if repeated n Duplicate) → Tells u v (refused_if given n Duplicate) → Tells v w (method_doubles [] b) → Tells t w (member_here e s)

@@ -1,16 +1,17 @@
 ghost use Rattle.std.specs.Prelude.{◌≡◌, ◌<◌, length, map, IfOk};
 ghost use Rattle.std.specs.List.{list_any};
-ghost use Rattle.spec_names.specs.Headers.{header_forms, is_private_method, is_self_first, lacks_self, member_forms, method_forms};
+ghost use Rattle.spec_names.specs.Headers.{header_forms, is_private_method, lacks_self, member_forms, method_forms};
 ghost use Rattle.spec_names.specs.Members.{each};
 ghost use Rattle.spec_names.specs.Names.{is_private};
 ghost use Rattle.py_tree.specs.Arena.{module_tree, shown_stmt};
 ghost use Rattle.py_tree.specs.Names.{AreNamesBelow, text_of};
-ghost use Rattle.py_tree.specs.Stmts.{AreParametersThere, AreStmtsBelow, block_tree, parameters_tree};
+ghost use Rattle.py_tree.specs.Stmts.{AreStmtsBelow, block_tree};
 ghost use Rattle.told_refusals.specs.Telling.{Tells};
 
 use crate::names::{are_private, defined};
+use module_functions::is_self_first;
 use module_members::{is_private, line_of, member_of, method_of, methods};
-use py_tree::{Module, NameId, ParameterNode, StmtId, StmtNode};
+use py_tree::{Module, NameId, StmtId, StmtNode};
 use spec_names::{ProfileFault, Refusal};
 use std::alloc::Global;
 use told_refusals::told_if;
@@ -34,17 +35,6 @@ fn are_private_methods(module: &Module, names: &[NameId]) -> bool
         }
     }
     false
-}
-
-// Whether the first of these parameters is `self`.
-fn is_self_first(module: &Module, parameters: &[ParameterNode]) -> bool
-    requires { AreParametersThere «module».now parameters.now }
-    ensures { result ≡ is_self_first (parameters_tree «module».now parameters.now) }
-{
-    match parameters {
-        [first, ..] => module.name_text(first.name) == "self",
-        [] => false,
-    }
 }
 
 // Whether a statement is a function whose first parameter is not `self`.

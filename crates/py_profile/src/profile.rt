@@ -28,8 +28,7 @@ fn profile_refusal(
 }
 
 /// Checks a module whose contract lines are these for its definitions and for the uses of names. It takes time linear in the
-/// number of statements, parameters, expressions and names, but that each contract line takes time linear in the number of
-/// parameters of its function.
+/// number of statements, parameters, expressions, names and contract lines.
 ///
 /// # Errors
 ///

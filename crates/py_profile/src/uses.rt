@@ -1,4 +1,4 @@
-ghost use Rattle.std.specs.Prelude.{◌≡◌, ◌<◌, length, map, slice_get, Some, IfOk, OnOk};
+ghost use Rattle.std.specs.Prelude.{◌≡◌, ◌<◌, length, map, slice_get, Some, true, IfOk, OnOk};
 ghost use Rattle.std.specs.List.{flat_map};
 ghost use Rattle.std.specs.Option.{option_map};
 ghost use Rattle.spec_uses.specs.Functions.{all_functions};
@@ -11,7 +11,7 @@ ghost use Rattle.contract_lines.specs.Given.{AreLinesThere, IsLineThere, line_in
 ghost use Rattle.contract_lines.specs.declared.contracts.ContractLine as written;
 ghost use Rattle.module_functions.specs.Listed.{AreThere, IsThere, function_in};
 ghost use Rattle.name_scopes.specs.Showing.{IsScopeOf, Shows};
-ghost use Rattle.py_profile.specs.Owning.{IsThereIf};
+ghost use Rattle.py_profile.specs.Owning.{HasFunction, IsEntered, IsEnteredIf, IsThereIf};
 ghost use Rattle.told_refusals.specs.Telling.{Tells};
 
 use contract_lines::{ContractLine, Contracts, LineKind, Owner};
@@ -81,25 +81,76 @@ fn function_at(module: &Module, functions: &[Function], owner: Owner) -> Option<
     }
 }
 
-// Makes the scope that of a contract line of a function, or of a class.
-fn enter_line(
+// Makes the names of a function those of the scope, for its contract lines, or no names for those of a class.
+fn enter_function(
     module: &Module,
     scope: &mut Scope,
-    kind: LineKind,
     function: Option<Function>,
 ) -> Result<(), NoMemory>
     requires function { IsThereIf «module».now function }
     requires scope { IsScopeOf «module».now scope.old }
     ensures scope { OnOk result (IsScopeOf «module».now scope.new) }
-    ensures shows { OnOk result (Shows «module».now.names scope.new (scope_at kind (option_map (function_in «module».now) function) (module_scope (module_tree «module».now).body))) }
+    ensures has { OnOk result (HasFunction «module».now scope.new (option_map (function_in «module».now) function)) }
 {
     match function {
         Some(function) => {
             let is_constructor = function.is_constructor(module);
-            scope.enter_line(module, kind, is_constructor, function.parameters(module))
+            scope.enter_function(module, is_constructor, function.parameters(module))
         }
-        None => scope.enter_line(module, kind, false, &[]),
+        None => scope.enter_function(module, false, &[]),
     }
+}
+
+// Whether the owner that was entered last, if one was, is this one.
+fn is_entered(entered: Option<Owner>, owner: Owner) -> bool
+    ensures { result ≡ true → entered ≡ Some owner }
+{
+    entered == Some(owner)
+}
+
+// Makes the names of the owner of a contract line those of the scope, where they are not yet.
+fn enter_owner(
+    module: &Module,
+    scope: &mut Scope,
+    functions: &[Function],
+    entered: &mut Option<Owner>,
+    owner: Owner,
+) -> Result<(), NoMemory>
+    requires functions { map (function_in «module».now) functions.now ≡ all_functions (module_tree «module».now).body }
+    requires there { AreThere «module».now functions.now }
+    requires scope { IsScopeOf «module».now scope.old }
+    requires entered { IsEnteredIf «module».now scope.old entered.old }
+    ensures scope { OnOk result (IsScopeOf «module».now scope.new) }
+    ensures entered { OnOk result (entered.new ≡ Some owner) }
+    ensures has { OnOk result (IsEntered «module».now scope.new owner) }
+{
+    if !is_entered(*entered, owner) {
+        enter_function(module, scope, function_at(module, functions, owner))?;
+        *entered = Some(owner);
+    }
+    Ok(())
+}
+
+// Makes the scope that of a contract line of this owner.
+fn enter_line(
+    module: &Module,
+    scope: &mut Scope,
+    functions: &[Function],
+    entered: &mut Option<Owner>,
+    owner: Owner,
+    kind: LineKind,
+) -> Result<(), NoMemory>
+    requires functions { map (function_in «module».now) functions.now ≡ all_functions (module_tree «module».now).body }
+    requires there { AreThere «module».now functions.now }
+    requires scope { IsScopeOf «module».now scope.old }
+    requires entered { IsEnteredIf «module».now scope.old entered.old }
+    ensures scope { OnOk result (IsScopeOf «module».now scope.new) }
+    ensures entered { OnOk result (IsEnteredIf «module».now scope.new entered.new) }
+    ensures shows { OnOk result (Shows «module».now.names scope.new (scope_at kind (function_at (module_tree «module».now).body (owner_in owner)) (module_scope (module_tree «module».now).body))) }
+{
+    enter_owner(module, scope, functions, entered, owner)?;
+    scope.enter_line(kind);
+    Ok(())
 }
 
 // What is told behind a contract line.
@@ -107,6 +158,7 @@ fn told_of_line(
     module: &Module,
     scope: &mut Scope,
     functions: &[Function],
+    entered: &mut Option<Owner>,
     line: ContractLine,
     told: Option<Refusal>,
 ) -> Result<Option<Refusal>, NoMemory>
@@ -114,14 +166,15 @@ fn told_of_line(
     requires there { AreThere «module».now functions.now }
     requires line { IsLineThere «module».now line }
     requires scope { IsScopeOf «module».now scope.old }
+    requires entered { IsEnteredIf «module».now scope.old entered.old }
     ensures scope { OnOk result (IsScopeOf «module».now scope.new) }
+    ensures entered { OnOk result (IsEnteredIf «module».now scope.new entered.new) }
     ensures told { IfOk result (λ new. Tells told new (uses_in_line (module_tree «module».now).body (line_in «module».now line))) }
 {
     let Some(e) = line.expr else {
         return Ok(told);
     };
-    let function = function_at(module, functions, line.owner);
-    enter_line(module, scope, line.kind, function)?;
+    enter_line(module, scope, functions, entered, line.owner, line.kind)?;
     Ok(told_of_expression(module, scope, Place::Read, e, told))
 }
 
@@ -130,6 +183,7 @@ fn told_of_line_at(
     module: &Module,
     scope: &mut Scope,
     functions: &[Function],
+    entered: &mut Option<Owner>,
     contracts: &Contracts,
     i: usize,
     told: Option<Refusal>,
@@ -138,11 +192,13 @@ fn told_of_line_at(
     requires there { AreThere «module».now functions.now }
     requires contracts { AreLinesThere «module».now contracts.now }
     requires scope { IsScopeOf «module».now scope.old }
+    requires entered { IsEnteredIf «module».now scope.old entered.old }
     ensures scope { OnOk result (IsScopeOf «module».now scope.new) }
+    ensures entered { OnOk result (IsEnteredIf «module».now scope.new entered.new) }
     ensures told { IfOk result (λ new. (l : written.ContractLine) → slice_get contracts.now i ≡ Some l → Tells told new (uses_in_line (module_tree «module».now).body (line_in «module».now l))) }
 {
     match contracts.get(i) {
-        Some(line) => told_of_line(module, scope, functions, line, told),
+        Some(line) => told_of_line(module, scope, functions, entered, line, told),
         None => Ok(told),
     }
 }
@@ -162,8 +218,9 @@ fn told_of_lines(
     ensures { IfOk result (λ new. Tells told new (flat_map (uses_in_line (module_tree «module».now).body) (map (line_in «module».now) contracts.now))) }
 {
     let mut told = told;
+    let mut entered = None;
     for i in 0..contracts.lines() {
-        told = told_of_line_at(module, scope, functions, contracts, i, told)?;
+        told = told_of_line_at(module, scope, functions, &mut entered, contracts, i, told)?;
     }
     Ok(told)
 }

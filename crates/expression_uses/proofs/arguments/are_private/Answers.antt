@@ -3,14 +3,15 @@ use Rattle.std.specs.List.{list_any}
 use Rattle.spec_names.specs.Names.{is_private}
 use Rattle.py_tree.specs.Arena.{shown}
 use Rattle.py_tree.specs.Exprs.{IsNameBelow}
-use Rattle.expression_uses.proofs.Keywords.{keyword_none, keyword_some, keyword_there, no_argument, text_is}
+use Rattle.name_scopes.proofs.Repeating.{argument_below, no_argument}
+use Rattle.expression_uses.proofs.Keywords.{keyword_none, keyword_some, text_is}
 use Rattle.expression_uses.proofs.arguments.are_private.Goals as goal
 use Rattle.expression_uses.proofs.arguments.are_private.Goals.{in-Some+else-is_private, in_default}
 
 pub name_text-requires : goal.name_text-requires
 name_text-requires c =
     let m = c.args.module.now in
-    let there : IsNameBelow (length m.names) (get_or c.args.arguments.now c.loop-argument.argument-index no_argument).name = keyword_there _ _ c.args.arguments.now c.loop-argument.argument-index no_argument c.requires c.loop-argument-test.true in
+    let there : IsNameBelow (length m.names) (get_or c.args.arguments.now c.loop-argument.argument-index no_argument).name = argument_below _ _ c.args.arguments.now c.loop-argument.argument-index no_argument c.requires c.loop-argument-test.true in
     rw c.in-Some.is at there
 
 pub returns-then-is_private : goal.returns-then-is_private

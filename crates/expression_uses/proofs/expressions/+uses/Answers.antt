@@ -8,6 +8,7 @@ use Rattle.spec_names.specs.declared.builtins.Builtin.{Builtin}
 use Rattle.expression_uses.specs.Parts.{uses_in_second}
 use Rattle.expression_uses.proofs.Calls.{more_told, sole_told}
 use Rattle.py_tree.specs.Arena.{shown}
+use Rattle.name_scopes.proofs.Repeating.{no_argument}
 use Rattle.name_scopes.proofs.Walking.{sized_on, walked_all, walked_more, walked_none, walks_as, walks_then, walks_told}
 use Rattle.std.proofs.lemmas.List.{append_assoc}
 use Rattle.spec_names.specs.Names.{is_private}
@@ -20,7 +21,7 @@ use Rattle.told_refusals.proofs.Telling.{tells_then}
 use Rattle.name_scopes.specs.Walking.{Walks}
 use Rattle.expression_uses.proofs.Inner.{walks_inner}
 use Rattle.expression_uses.proofs.Plain.{with_parts}
-use Rattle.expression_uses.proofs.Keywords.{no_argument, text_is}
+use Rattle.expression_uses.proofs.Keywords.{text_is}
 use Rattle.expression_uses.proofs.Measures.{argument_above, argument_there, brackets_least, brackets_up, generator_least, generator_up, item_above, item_there, items_least, items_up, link_above, link_there, links_least, links_up, no_item, no_link, no_pair, pair_above, pair_there, pairs_least, pairs_up}
 use Rattle.expression_uses.proofs.Steps.{items_step, links_step, of_argument, of_item, of_items, of_link, of_links, of_pair, of_pairs, of_rest, pairs_step, rest_step}
 use Rattle.expression_uses.proofs.expressions.+uses.Goals as goal
@@ -189,8 +190,8 @@ told_of_generator-returns t c =
     let outside = walks_then m.names _ _ _ _ _ _ _ (λ s. uses Walked s (shown m g.iterable.index)) (walks_told m.names c.args.scope.now _ _ _ here) c.told_of_expression-told.ensures in
     let conditions = rw c.deref.ensures.value at c.told_of_items-told.ensures in
     let inside = walks_then m.names _ _ _ _ _ _ (λ s. uses Read s (shown m g.element.index)) _ c.told_of_expression-told-2.ensures conditions in
-    let inner = walks_inner m.names c.told_of_expression-told.new.scope _ _ g.variable c.is_local-was_local.result _ _ _ c.name_text.ensures.«module».distinct c.requires.generator.variable
-    (sized_on m.names c.args.scope.now _ c.told_of_expression-told.ensures.same c.requires.sized) c.is_local-was_local.ensures c.set_local-2.ensures (rw c.set_local.ensures at inside) in
+    let inner = walks_inner m.names c.told_of_expression-told.new.scope _ _ g.variable c.is_variable-was_variable.result _ _ _ c.name_text.ensures.«module».distinct c.requires.generator.variable
+    (sized_on m.names c.args.scope.now _ c.told_of_expression-told.ensures.same c.requires.sized) c.is_variable-was_variable.ensures c.set_variable-2.ensures (rw c.set_variable.ensures at inside) in
     walks_as m.names _ _ _ _ _ _ (λ s p. sym (append_assoc (refused_if (is_private x) c.args.line Form ++ uses Walked s (shown m g.iterable.index)) (uses Read (with_locals (x ∷ []) s) (shown m g.element.index)) (uses_in (with_locals (x ∷ []) s) (items_tree (shown m) g.conditions.items))))
     (walks_then m.names _ _ _ _ _ _ _ _ outside inner)
 

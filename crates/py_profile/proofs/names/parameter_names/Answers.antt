@@ -1,8 +1,8 @@
 use Rattle.std.proofs.Common.{◌∙◌, ap, arith, map}
 use Rattle.std.proofs.lemmas.List.{take_all}
 use Rattle.py_tree.specs.Names.{text_of}
+use Rattle.name_scopes.proofs.Entering.{no_parameter}
 use Rattle.py_profile.proofs.Below.{ids_more, ids_of, texts_of_ids}
-use Rattle.py_profile.proofs.Defaults.{no_parameter}
 use Rattle.py_profile.proofs.names.parameter_names.Goals as goal
 
 pub loop-parameter-preserved : goal.loop-parameter-preserved

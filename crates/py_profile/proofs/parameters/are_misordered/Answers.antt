@@ -2,7 +2,8 @@ use Rattle.std.proofs.Common.{◌≡◌, ◌&&◌, ◌∙◌, false, ap, get_or}
 use Rattle.std.specs.Prelude.{not}
 use Rattle.std.specs.Option.{is_some}
 use Rattle.py_tree.specs.Stmts.{parameters_tree}
-use Rattle.py_profile.proofs.Defaults.{behind_none, no_parameter, none_misordered, not_both, not_first}
+use Rattle.name_scopes.proofs.Entering.{no_parameter}
+use Rattle.py_profile.proofs.Defaults.{behind_none, none_misordered, not_both, not_first}
 use Rattle.py_profile.proofs.parameters.are_misordered.Goals as goal
 use Rattle.py_profile.proofs.parameters.are_misordered.Goals.{else-has_default-via-then-has_default+else-is_none, else-has_default-via-else-has_default}
 

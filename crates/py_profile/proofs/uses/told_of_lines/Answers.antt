@@ -13,7 +13,8 @@ loop-i-preserved c =
     let line = uses_in_line (module_tree m).body in
     let lt : c.loop-i.i < length c.args.contracts.now = rw (← c.lines-i-end.ensures) c.loop-i-test.true in (
       (c.in_ok-told.ensures {u = tt}).scope,
-      told_more (λ l. line (line_in m l)) c.args.contracts.now c.args.told c.loop-i.told c.loop-i.i c.loop-i.invariant.1 _ no_line lt ((c.in_ok-told.ensures {u = tt}).told _ (slice_get-get_or c.args.contracts.now c.loop-i.i no_line lt)),
+      (c.in_ok-told.ensures {u = tt}).entered,
+      told_more (λ l. line (line_in m l)) c.args.contracts.now c.args.told c.loop-i.told c.loop-i.i c.loop-i.invariant.2 _ no_line lt ((c.in_ok-told.ensures {u = tt}).told _ (slice_get-get_or c.args.contracts.now c.loop-i.i no_line lt)),
     )
 
 pub returns : goal.returns
@@ -21,4 +22,4 @@ returns c =
     let m = c.args.module.now in
     let line = uses_in_line (module_tree m).body in
     let le : length c.args.contracts.now ≤ c.loop-i.i = rw (← c.lines-i-end.ensures) c.loop-i-test.false in
-    rw (← flat_map_map line (line_in m) c.args.contracts.now) (told_all (λ l. line (line_in m l)) c.args.contracts.now c.args.told c.loop-i.told c.loop-i.i c.loop-i.invariant.1 le)
+    rw (← flat_map_map line (line_in m) c.args.contracts.now) (told_all (λ l. line (line_in m l)) c.args.contracts.now c.args.told c.loop-i.told c.loop-i.i c.loop-i.invariant.2 le)

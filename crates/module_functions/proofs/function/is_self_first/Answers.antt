@@ -1,7 +1,6 @@
 use Rattle.std.proofs.Common.{◌∙◌}
-use Rattle.py_profile.proofs.Below.{first_is}
-use Rattle.py_profile.proofs.Defaults.{no_parameter}
-use Rattle.py_profile.proofs.headers.is_self_first.Goals as goal
+use Rattle.module_functions.proofs.Receivers.{first_is, no_parameter}
+use Rattle.module_functions.proofs.function.is_self_first.Goals as goal
 
 pub returns-in-len1-up : goal.returns-in-len1-up
 returns-in-len1-up c = c.eq.ensures ∙ first_is c.args.module.now c.args.parameters.now no_parameter _ c.in-len1-up.len_at_least c.name_text.ensures.text
