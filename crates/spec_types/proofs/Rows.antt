@@ -11,8 +11,9 @@ use Rattle.spec_names.specs.declared.Refusal.{Refusal}
 use Rattle.spec_uses.specs.Functions.{FunctionOf}
 use Rattle.spec_types.specs.Quotes.{unquoted}
 use Rattle.spec_types.specs.Types.{ValueType, integer, truth, none, list_of, dict_of, option_of, instance, type_of}
-use Rattle.spec_types.specs.Classes.{constructor_at}
-use Rattle.spec_types.specs.Needs.{are_of, type_refusals}
+use Rattle.spec_types.specs.Signatures.{given_by, signature, taken}
+use Rattle.spec_types.specs.Reached.{is_reached}
+use Rattle.spec_types.specs.Needs.{edges, type_refusals}
 use Rattle.spec_types.specs.Widths.{class_width, greatest_width, is_wider, width_in, width_of}
 
 abbrev refused : ℕ → ProfileFault → List Refusal
@@ -46,6 +47,11 @@ names_are_types = refl
 classes_are_types : type_of body (plain (codes "C")) ≡ Some (instance 0)
 unfolding unquoted
 classes_are_types = refl
+
+-- a built-in type comes before a class of its name
+built_in_types_come_first : type_of (statement (tree.class 1 (codes "list") pass) no_statement) (plain (codes "list")) ≡ None
+unfolding unquoted
+built_in_types_come_first = refl
 
 other_names_are_not : type_of body (plain (codes "float")) ≡ None
 unfolding unquoted
@@ -93,52 +99,64 @@ unions_without_none_are_not = refl
 
 -- ---- needs
 
-abbrev parameter : List ℕ → Option TypeExpr → Parameter
-parameter x t = record { name = x; annotation = t; default = None }
-
-missing_types_are_told : type_refusals body 1 (parameter (codes "x") None) ≡ refused 1 MissingType
+missing_types_are_told : type_refusals 1 (given_by body None) ≡ refused 1 MissingType
 missing_types_are_told = refl
 
-unknown_types_are_told_at_their_lines : type_refusals body 1 (parameter (codes "x") (Some (simple.name 3 (codes "float") no_types))) ≡ refused 3 UnknownType
+unknown_types_are_told_at_their_lines : type_refusals 1 (given_by body (Some (simple.name 3 (codes "float") no_types))) ≡ refused 3 UnknownType
 unfolding unquoted
 unknown_types_are_told_at_their_lines = refl
 
-types_are_fine : type_refusals body 1 (parameter (codes "x") (Some int)) ≡ []
+types_are_fine : type_refusals 1 (given_by body (Some int)) ≡ []
 unfolding unquoted
 types_are_fine = refl
+
+abbrev parameter : List ℕ → Option TypeExpr → Parameter
+parameter x t = record { name = x; annotation = t; default = None }
 
 -- a class whose constructor takes a value of this type
 abbrev reaching : Option TypeExpr → Block
 reaching t = statement (tree.class 5 (codes "A") (statement (tree.def 6 (codes "__init__") (parameter (codes "self") None ∷ parameter (codes "y") t ∷ []) None pass) no_statement)) no_statement
 
-constructors_take_what_stands_behind_self : are_of (reaching (Some (plain (codes "A")))) 0 (constructor_at (reaching (Some (plain (codes "A")))) 0) ≡ true
+constructors_take_what_stands_behind_self : edges (taken (reaching (Some (plain (codes "A"))))) ≡ (0 ∷ []) ∷ []
 unfolding unquoted
 constructors_take_what_stands_behind_self = refl
 
+-- from 0 to 1 and 3, and from 1 to 2
+abbrev graph : List (List ℕ)
+graph = (1 ∷ 3 ∷ []) ∷ (2 ∷ []) ∷ [] ∷ [] ∷ (0 ∷ []) ∷ []
+
+nodes_are_reached_over_others : is_reached graph (0 ∷ []) 2 ≡ true
+nodes_are_reached_over_others = refl
+
+edges_have_a_direction : is_reached graph (1 ∷ []) 0 ≡ false
+edges_have_a_direction = refl
+
 -- ---- widths
 
-lists_count_their_elements : class_width (reaching (Some (named (codes "list") (one (plain (codes "str")))))) 3 3 0 ≡ Some 14
+lists_count_their_elements : class_width (taken (reaching (Some (named (codes "list") (one (plain (codes "str"))))))) 3 3 0 ≡ Some 14
 unfolding unquoted
 lists_count_their_elements = refl
 
 -- A takes an A or None: three of them stand in each other, and what stands inside counts one
-classes_reach_themselves : class_width (reaching (Some (simple.union 1 (plain (codes "A")) (one (simple.none 1))))) 3 3 0 ≡ Some 4
+classes_reach_themselves : class_width (taken (reaching (Some (simple.union 1 (plain (codes "A")) (one (simple.none 1)))))) 3 3 0 ≡ Some 4
 unfolding unquoted
 classes_reach_themselves = refl
 
-widths_need_types : class_width (reaching None) 3 3 0 ≡ None
-unfolding unquoted
+widths_need_types : class_width (taken (reaching None)) 3 3 0 ≡ None
 widths_need_types = refl
 
 -- a method of the class of the number 0
 abbrev method : List ℕ → FunctionOf
 method x = record { line = 7; name = x; parameters = parameter (codes "self") None ∷ parameter (codes "z") (Some int) ∷ []; body = pass; class = Some 0 }
 
-methods_count_their_objects : width_of (reaching (Some (plain (codes "str")))) 3 2 (method (codes "m")) ≡ Some 6
+abbrev width : List ℕ → Option ℕ
+width x = width_of 3 (class_width (taken (reaching (Some (plain (codes "str"))))) 3 3) (signature (reaching (Some (plain (codes "str")))) [] 0 (method x))
+
+methods_count_their_objects : width (codes "m") ≡ Some 6
 unfolding unquoted
 methods_count_their_objects = refl
 
-constructors_do_not : width_of (reaching (Some (plain (codes "str")))) 3 2 (method (codes "__init__")) ≡ Some 1
+constructors_do_not : width (codes "__init__") ≡ Some 1
 unfolding unquoted
 constructors_do_not = refl
 

@@ -1,18 +1,14 @@
 -- How many values a type has, roughly, and which functions have too many.
-use Rattle.std.specs.Prelude.{ℕ, zero, suc, Bool, false, not, ◌&&◌, ◌+◌, ◌*◌, nat_lt, List, [], ◌∷◌, Option, Some, None, if◌then◌else◌}
+use Rattle.std.specs.Prelude.{ℕ, zero, suc, Bool, false, ◌&&◌, ◌+◌, ◌*◌, nat_lt, List, [], ◌∷◌, get_or, Option, Some, None, if◌then◌else◌}
 use Rattle.std.specs.List.{flat_map}
 use Rattle.std.specs.Option.{option_map}
-use Rattle.spec_trees.specs.Stmt.{Parameter}
 use Rattle.spec_trees.specs.Module.{Block}
+use Rattle.spec_contracts.specs.ContractLines.{ContractLine}
 use Rattle.spec_names.specs.declared.ProfileFault.TheVariants.{TooWide}
 use Rattle.spec_names.specs.declared.Refusal.{Refusal}
 use Rattle.spec_names.specs.Refusals.{refused_if}
 use Rattle.spec_types.specs.Types.{ValueType, integer, truth, none, text, list_of, dict_of, option_of, instance}
-use Rattle.spec_names.specs.Headers.{is_self_first}
-use Rattle.spec_names.specs.Names.{is_init}
-use Rattle.spec_uses.specs.Functions.{FunctionOf, all_functions}
-use Rattle.spec_types.specs.Classes.{constructor_at}
-use Rattle.spec_types.specs.Needs.{annotated, is_checked, typed}
+use Rattle.spec_types.specs.Signatures.{Given, missing, unknown, known, Signature, signatures, taken}
 
 -- the sum of two widths, where both are there
 abbrev pub plus : Option ℕ → Option ℕ → Option ℕ
@@ -32,33 +28,35 @@ width_in max_len of_class text = Some (suc max_len)
 width_in max_len of_class (list_of t) = times max_len (width_in max_len of_class t)
 width_in max_len of_class (dict_of k v) = times max_len (plus (width_in max_len of_class k) (width_in max_len of_class v))
 width_in max_len of_class (option_of t) = width_in max_len of_class t
-width_in max_len of_class (instance c) = of_class c
+width_in max_len of_class (instance k) = of_class k
 
-abbrev pub width_if : ℕ → (ℕ → Option ℕ) → Option ValueType → Option ℕ
-width_if max_len of_class None = None
-width_if max_len of_class (Some t) = width_in max_len of_class t
+abbrev pub given_width : ℕ → (ℕ → Option ℕ) → Given → Option ℕ
+given_width max_len of_class missing = None
+given_width max_len of_class (unknown n) = None
+given_width max_len of_class (known t) = width_in max_len of_class t
 
 -- the widths of parameters together, where each has a type
-abbrev pub total : Block → ℕ → (ℕ → Option ℕ) → List Parameter → Option ℕ
-total b max_len of_class [] = Some 0
-total b max_len of_class (p ∷ ps) = plus (width_if max_len of_class (annotated b p.annotation)) (total b max_len of_class ps)
+abbrev pub total : ℕ → (ℕ → Option ℕ) → List Given → Option ℕ
+total max_len of_class [] = Some 0
+total max_len of_class (g ∷ gs) = plus (given_width max_len of_class g) (total max_len of_class gs)
 
--- The width of a class, of whose objects k may stand in each other: one more than what its constructor takes.
-abbrev pub class_width : Block → ℕ → ℕ → ℕ → Option ℕ
-class_width b max_len zero c = Some 1
-class_width b max_len (suc k) c = option_map suc (total b max_len (class_width b max_len k) (constructor_at b c))
+-- The width of a class, of whose objects n may stand in each other: one more than what its constructor takes. Constructors
+-- take these.
+abbrev pub class_width : List (List Given) → ℕ → ℕ → ℕ → Option ℕ
+class_width cs max_len zero k = Some 1
+class_width cs max_len (suc n) k = option_map suc (total max_len (class_width cs max_len n) (get_or cs k []))
 
--- the width of a `self` that stands first in a method, which a constructor makes and does not take
-abbrev pub self_width : (ℕ → Option ℕ) → FunctionOf → Option ℕ
-self_width of_class f = if is_self_first f.parameters && not (is_init f.name) then by_class f.class else Some 0
+-- the width of an object of the function's own class that it takes
+abbrev pub self_width : (ℕ → Option ℕ) → Signature → Option ℕ
+self_width of_class s = if s.takes_self then by_class s.class else Some 0
   where
     by_class : Option ℕ → Option ℕ
     by_class None = Some 0
     by_class (Some k) = of_class k
 
--- The widths of the parameters of a function together. It has none where a constructor lacks a type.
-abbrev pub width_of : Block → ℕ → ℕ → FunctionOf → Option ℕ
-width_of b max_len max_nest f = plus (self_width (class_width b max_len (suc max_nest)) f) (total b max_len (class_width b max_len (suc max_nest)) (typed f))
+-- The widths of the parameters of a function together. There is none where a constructor lacks a type.
+abbrev pub width_of : ℕ → (ℕ → Option ℕ) → Signature → Option ℕ
+width_of max_len of_class s = plus (self_width of_class s) (total max_len of_class s.types)
 
 -- the greatest width of a checked function
 abbrev pub greatest_width : ℕ
@@ -68,6 +66,9 @@ abbrev pub is_wider : ℕ → Option ℕ → Bool
 is_wider n None = false
 is_wider n (Some w) = nat_lt n w
 
--- the checked functions that are too wide
-abbrev pub width_refusals : Block → ℕ → ℕ → List Refusal
-width_refusals b max_len max_nest = flat_map (λ (f : FunctionOf). refused_if (is_checked b f && is_wider greatest_width (width_of b max_len max_nest f)) f.line TooWide) (all_functions b)
+-- the checked functions that are too wide, where classes have these widths
+abbrev pub too_wide : ℕ → (ℕ → Option ℕ) → Signature → List Refusal
+too_wide max_len of_class s = refused_if (s.is_checked && is_wider greatest_width (width_of max_len of_class s)) s.line TooWide
+
+abbrev pub width_refusals : Block → List ContractLine → ℕ → ℕ → List Refusal
+width_refusals b ls max_len max_nest = flat_map (too_wide max_len (class_width (taken b) max_len (suc max_nest))) (signatures b ls)
