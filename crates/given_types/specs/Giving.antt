@@ -13,6 +13,11 @@ use Rattle.given_types.specs.declared.GivenType.{GivenType}
 use Rattle.given_types.specs.declared.GivenType.TheVariants.{Missing, Unknown, Known}
 use Rattle.given_types.specs.declared.Signature.{Signature}
 
+-- the class of a function is one of the first n
+abbrev pub IsClassBelow : ℕ → Option ℕ → Type 0
+IsClassBelow n None = Unit {0}
+IsClassBelow n (Some k) = k < n
+
 module _ (m : State) where
   -- the type of a module that this is
   abbrev pub type_at : TypeId → Option ValueType
@@ -45,11 +50,6 @@ module _ (m : State) where
     takes_self = s.takes_self;
     types = map given_in s.types.items;
   }
-
-  -- the class of a function is one of the first n
-  abbrev pub IsClassBelow : ℕ → Option ℕ → Type 0
-  IsClassBelow n None = Unit {0}
-  IsClassBelow n (Some k) = k < n
 
   abbrev pub IsSignature : ℕ → Signature → Type 0
   IsSignature n s = IsClassBelow n s.class × All IsGiven s.types.items

@@ -14,7 +14,7 @@ use Rattle.told_refusals.proofs.Telling.{tells_none}
 use Rattle.given_types.specs.declared.GivenType.{GivenType}
 use Rattle.given_types.specs.declared.Signature.{Signature}
 use Rattle.given_types.specs.Giving.{AreSignatures, IsClassBelow, all_given, given_in, signature_in}
-use Rattle.type_needs.specs.Marked.{HasMark, HaveGiven, HaveMarks, marked}
+use Rattle.type_needs.specs.Marked.{HaveGiven, HaveMarks, marked}
 
 module _ (reached : ℕ → Bool) (s : types.Signature) where
   pub told_of_needy : (old new : Option Refusal) → needs_types reached s ≡ true → Tells old new (flat_map (type_refusals s.line) s.types) → Tells old new (signature_refusals reached s)
@@ -25,13 +25,9 @@ module _ (reached : ℕ → Bool) (s : types.Signature) where
 
 -- ---- marks of all classes
 
-pub has_mark : (m : State) (n : ℕ) (marks : List Bool) → length marks ≡ n → (c : Option ℕ) → IsClassBelow m n c → HasMark marks c
-has_mark m n marks e None h = tt
-has_mark m n marks e (Some k) h = omega (arith, e, h)
-
 module _ (m : State) (n : ℕ) (ss : List Signature) (h : AreSignatures m n ss) where
   pub have_marks : (marks : List Bool) → length marks ≡ n → HaveMarks marks ss
-  have_marks marks e = λ i d lt. has_mark m n marks e (get_or ss i d).class (h i d lt).0
+  have_marks marks e = λ i d lt. subst (λ (v : ℕ). IsClassBelow v (get_or ss i d).class) (sym e) (h i d lt).0
 
   pub have_given : HaveGiven m ss
   have_given = λ i d lt. (h i d lt).1
@@ -39,12 +35,12 @@ module _ (m : State) (n : ℕ) (ss : List Signature) (h : AreSignatures m n ss) 
 -- ---- the same marks
 
 module _ (m : State) (n : ℕ) (p q : ℕ → Bool) (same : (k : ℕ) → k < n → p k ≡ q k) where
-  same_refusals : (s : Signature) → IsClassBelow m n s.class → signature_refusals p (signature_in m s) ≡ signature_refusals q (signature_in m s)
+  same_refusals : (s : Signature) → IsClassBelow n s.class → signature_refusals p (signature_in m s) ≡ signature_refusals q (signature_in m s)
   same_refusals s h = ap (λ (b : Bool). if b then flat_map (type_refusals s.line) (signature_in m s).types else []) (by_class s.class refl)
     where
       by_class : (c : Option ℕ) → s.class ≡ c → needs_types p (signature_in m s) ≡ needs_types q (signature_in m s)
       by_class None e = rw e refl
-      by_class (Some k) e = rw e (ap (λ (b : Bool). s.is_checked || (s.is_constructor && b)) (same k (subst (IsClassBelow m n) e h)))
+      by_class (Some k) e = rw e (ap (λ (b : Bool). s.is_checked || (s.is_constructor && b)) (same k (subst (IsClassBelow n) e h)))
 
   pub same_needs : (ss : List Signature) → AreSignatures m n ss → flat_map (signature_refusals p) (map (signature_in m) ss) ≡ flat_map (signature_refusals q) (map (signature_in m) ss)
   same_needs [] h = refl

@@ -4,8 +4,8 @@ ghost use Rattle.spec_types.specs.Names.{type_name};
 ghost use Rattle.spec_types.specs.Needs.{is_class_reached, needs_types, signature_refusals, type_refusals};
 ghost use Rattle.py_tree.specs.Arena.{State, module_tree};
 ghost use Rattle.told_refusals.specs.Telling.{Tells};
-ghost use Rattle.given_types.specs.Giving.{AreGiven, AreSignatures, IsGiven, all_given, given_in, signature_in};
-ghost use Rattle.type_needs.specs.Marked.{HasMark, HaveGiven, HaveMarks, is_marked, marked};
+ghost use Rattle.given_types.specs.Giving.{AreGiven, AreSignatures, IsClassBelow, IsGiven, all_given, given_in, signature_in};
+ghost use Rattle.type_needs.specs.Marked.{HaveGiven, HaveMarks, is_marked, marked};
 
 use crate::class_graph::{edges, seeds};
 use given_types::{GivenType, Signature};
@@ -43,7 +43,7 @@ fn told_of_types(line: u32, types: &[GivenType], told: Option<Refusal>) -> Optio
 
 // Whether a function has a class, and that is marked.
 fn is_marked(marks: &[bool], class: Option<usize>) -> bool
-    requires { HasMark marks.now class }
+    requires { IsClassBelow (length marks.now) class }
     ensures { result ≡ is_marked marks.now class }
 {
     match class {
@@ -54,7 +54,7 @@ fn is_marked(marks: &[bool], class: Option<usize>) -> bool
 
 // Whether the parameters of a function need types, where the classes that are reached have marks.
 fn needs_types(marks: &[bool], signature: &Signature) -> bool
-    requires { HasMark marks.now signature.now.class }
+    requires { IsClassBelow (length marks.now) signature.now.class }
     ensures { (m : State) → result ≡ needs_types (marked marks.now) (signature_in m signature.now) }
 {
     signature.is_checked || signature.is_constructor && is_marked(marks, signature.class)
@@ -66,7 +66,7 @@ fn told_of_signature(
     signature: &Signature,
     told: Option<Refusal>,
 ) -> Option<Refusal>
-    requires { HasMark marks.now signature.now.class }
+    requires { IsClassBelow (length marks.now) signature.now.class }
     ensures { (m : State) → All (IsGiven m) signature.now.types.items → Tells told result (signature_refusals (marked marks.now) (signature_in m signature.now)) }
 {
     if needs_types(marks, signature) {

@@ -10,7 +10,7 @@ use Rattle.spec_types.specs.Widths.{given_width, greatest_width, is_wider, plus,
 use Rattle.py_tree.specs.Arena.{State}
 use Rattle.given_types.specs.declared.GivenType.{GivenType}
 use Rattle.given_types.specs.declared.GivenType.TheVariants.{Missing}
-use Rattle.given_types.specs.Giving.{IsClassBelow, given_in}
+use Rattle.given_types.specs.Giving.{given_in}
 use Rattle.value_types.specs.Widths.{capped}
 use Rattle.value_types.proofs.Capped.{capped_plus}
 
@@ -50,11 +50,6 @@ module _ (m : ℕ) (f : ℕ → Option ℕ) where
 
 pub plus_both : (a b r s : Option ℕ) → r ≡ option_map capped a → s ≡ option_map capped b → option_map capped (plus r s) ≡ option_map capped (plus a b)
 plus_both a b r s g h = rw (g, h) (capped_plus a b)
-
--- the class of a function, where it has one
-pub class_there : (s : State) (n : ℕ) (o : Option ℕ) → IsClassBelow s n o → (k : ℕ) → o ≡ Some k → k < n
-class_there s n None h k e = absurd cc
-class_there s n (Some j) h k e = let same = same_Some j k e in omega (arith, h)
 
 -- ---- widths that are too great
 

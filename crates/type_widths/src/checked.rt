@@ -6,7 +6,7 @@ ghost use Rattle.spec_types.specs.Names.{type_name};
 ghost use Rattle.spec_types.specs.Widths.{class_width, greatest_width, is_wider, self_width, too_wide, width_of};
 ghost use Rattle.py_tree.specs.Arena.{State, module_tree};
 ghost use Rattle.told_refusals.specs.Telling.{Tells};
-ghost use Rattle.given_types.specs.Giving.{AreGiven, AreSignatures, IsSignature, all_given, signature_in};
+ghost use Rattle.given_types.specs.Giving.{AreGiven, AreSignatures, IsClassBelow, IsSignature, all_given, signature_in};
 ghost use Rattle.value_types.specs.Widths.{AreCapped, capped};
 
 use crate::levels::class_widths;
@@ -25,7 +25,7 @@ const GREATEST_WIDTH: usize = 4096;
 
 // The width of the object of its own class that a function takes.
 fn self_width(signature: &Signature, classes: &[Option<usize>]) -> Option<usize>
-    requires class { (k : ℕ) → signature.now.class ≡ Some k → k < length classes.now }
+    requires { IsClassBelow (length classes.now) signature.now.class }
     ensures { (of_class : ℕ → Option ℕ) → AreCapped classes.now of_class → (m : State) → result ≡ option_map capped (self_width of_class (signature_in m signature.now)) }
 {
     match signature.class {
