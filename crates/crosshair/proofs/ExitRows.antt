@@ -39,9 +39,9 @@ one_row s contents left o o' e e' n n' r result ends is same =
 
 -- 2: some target is refused
 pub two_row : (s : Option Settings) (contents : Option (List (List ℕ × List ℕ))) (left : Option ℕ) (o o' e e' : Option (List ℕ)) (n n' : ℕ) (r : Result ℕ Stop) (result : ℕ)
-    → IfSome (settled_total s contents left) (λ total. Ends total o o' e e' n n' r) → result ≡ status_of r → result ≡ 2 → IfSome s (λ s. IfSome contents (λ files. SomeTarget (IsRefused files) s.targets))
+    → IfSome (settled_total s contents left) (λ total. Ends total o o' e e' n n' r) → result ≡ status_of r → result ≡ 2 → IfSome s (λ s. IfSome contents (λ files. SomeTarget (IsRefused s.bounds files) s.targets))
 two_row s contents left o o' e e' n n' r result ends is same =
-    row s contents left o o' e e' n n' r result 2 (λ s files. SomeTarget (IsRefused files) s.targets) (λ s files k. two_means s.report_all s.bounds s.targets files left k) (omega arith) ends is same
+    row s contents left o o' e e' n n' r result 2 (λ s files. SomeTarget (IsRefused s.bounds files) s.targets) (λ s files k. two_means s.report_all s.bounds s.targets files left k) (omega arith) ends is same
 
 -- 4: the read of some target fails
 pub four_row : (s : Option Settings) (contents : Option (List (List ℕ × List ℕ))) (left : Option ℕ) (o o' e e' : Option (List ℕ)) (n n' : ℕ) (r : Result ℕ Stop) (result : ℕ)

@@ -2,13 +2,14 @@
 ghost use Rattle.std.specs.Prelude.{◌≡◌, ◌<◌, ◌≤◌, ◌^◌, ◌==◌, suc, length, take, chars};
 ghost use Rattle.std.specs.List.{count_by};
 ghost use Rattle.spec_admission.specs.Admission.{admit, admit_text};
+ghost use Rattle.first_tree.specs.BoundsOf.{bounds_of};
 ghost use Rattle.crosshair.specs.Answers.{IsAdmission};
 ghost use Rattle.crosshair.specs.Refusals.{profile_kind};
 
 use crate::refusals::RefusalKind;
 use contract_lines::{ContractError, conditions};
 use first_forms::{FormError, functions};
-use first_tree::Module;
+use first_tree::{Bounds, Module};
 use py_parser::{SyntaxError, module};
 use py_profile::{ProfileError, check_profile};
 use py_tokens::{TokenError, scan};
@@ -143,24 +144,25 @@ fn line_at(content: &[u8], place: usize) -> u32
 
 /// Reads a text: its tokens, its blocks, its contract lines, its names with its statements, and its functions, in this order.
 /// The first that refuses decides.
-fn admit_text(alloc: Global, text: &str) -> Result<Module, StageError>
+fn admit_text(alloc: Global, text: &str, bounds: &Bounds) -> Result<Module, StageError>
     requires { length text.now < 2 ^ 31 }
-    ensures { IsAdmission (admit_text (chars text.now)) result }
+    ensures { IsAdmission (admit_text (bounds_of bounds.now) (chars text.now)) result }
 {
     let tokens = scan(alloc, text)?;
     let mut module = module(alloc, &tokens)?;
     let contracts = conditions(alloc, &mut module)?;
-    check_profile(alloc, &module, &contracts)?;
+    let (max_len, max_nest) = (bounds.max_len, bounds.max_nest);
+    check_profile(alloc, &mut module, &contracts, max_len, max_nest)?;
     Ok(functions(alloc, &module)?)
 }
 
 /// Reads a content, whose encoding is UTF-8, or else refuses it at the line of the first byte that begins no character.
-pub fn admit(alloc: Global, content: &[u8]) -> Result<Module, StageError>
+pub fn admit(alloc: Global, content: &[u8], bounds: &Bounds) -> Result<Module, StageError>
     requires { length content.now < 2 ^ 31 }
-    ensures { IsAdmission (admit content.now) result }
+    ensures { IsAdmission (admit (bounds_of bounds.now) content.now) result }
 {
     match str::from_utf8(content) {
-        Ok(text) => admit_text(alloc, text),
+        Ok(text) => admit_text(alloc, text, bounds),
         Err(error) => {
             let line = line_at(content, error.valid_up_to());
             Err(StageError::Refused(line, RefusalKind::NotUtf8))

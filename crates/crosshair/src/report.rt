@@ -161,7 +161,7 @@ fn report<O: Sink, E: Sink>(
     ensures status { IfOk result (λ status. status ≤ 2) }
     ensures cause { HasStopCause 0 0 (O.faults out.old) (O.faults out.new) (E.faults err.old) (E.faults err.new) result }
 {
-    match admit(alloc, content) {
+    match admit(alloc, content, &settings.bounds) {
         Ok(trees) => report_program(alloc, name, &trees, settings, out, err),
         Err(StageError::Refused(line, kind)) => refuse(alloc, name, line, kind.name(), out, err),
         Err(StageError::NoMemory) => Err(Stop::NoMemory),

@@ -119,7 +119,7 @@ pub fn run<F: Files, O: Sink, E: Sink>(
     ensures failing { result ≡ 1 → IfSome (settings words.now) (λ s. IfSome (F.contents files.old) (λ contents. EachTarget (λ name. Passes s.bounds contents name ⊎ Fails s.bounds contents name) s.targets × SomeTarget (Fails s.bounds contents) s.targets)) }
 
     // 2: the words are refused, or a file is.
-    ensures refusing { result ≡ 2 → IfSome (settings words.now) (λ s. IfSome (F.contents files.old) (λ contents. SomeTarget (IsRefused contents) s.targets)) }
+    ensures refusing { result ≡ 2 → IfSome (settings words.now) (λ s. IfSome (F.contents files.old) (λ contents. SomeTarget (IsRefused s.bounds contents) s.targets)) }
 
     // 4: a file could not be read.
     ensures unread { result ≡ 4 → IfSome (settings words.now) (λ s. IfSome (F.contents files.old) (λ contents. SomeReadFails contents s.targets (F.left files.old))) }

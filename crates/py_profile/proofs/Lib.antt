@@ -4,3 +4,4 @@ pub mod Defaults
 pub mod Listed
 pub mod Walking
 pub mod Owned
+pub mod Refusing

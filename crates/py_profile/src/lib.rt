@@ -1,4 +1,5 @@
-//! Why a module is refused whose contract lines are right: for its definitions, or for how its names are used.
+//! Why a module is refused whose contract lines are right: for its definitions, for how its names are used, or for the types of
+//! its parameters.
 //!
 //! [`check_profile`] answers the refusal that is told, if there is one.
 #![tactic(auto)]

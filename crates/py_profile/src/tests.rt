@@ -1,11 +1,22 @@
 ghost use Rattle.std.specs.Prelude.{◌≡◌, ◌<◌, length, IfOk};
+ghost use Rattle.contract_lines.specs.Given.{AreLinesThere};
+ghost use Rattle.py_types.specs.Given.{Grows};
 
 use crate::{ProfileError, check_profile};
 use contract_lines::{ContractLine, Contracts, FnId, LineKind, Owner};
-use py_tree::{ExprNode, Module, StmtId, StmtNode};
+use py_tree::{ExprNode, Module, ParameterNode, StmtId, StmtNode};
 use spec_names::ProfileFault;
+use std::alloc::Global;
 use std::test::Fail;
 use xh_outside::NoMemory;
+
+/// Checks a module under the bounds 3 and 2.
+fn check(alloc: Global, module: &mut Module, contracts: &Contracts) -> Result<(), ProfileError>
+    requires { AreLinesThere «module».old contracts.now }
+    ensures { Grows «module».old «module».new }
+{
+    check_profile(alloc, module, contracts, 3, 2)
+}
 
 /// Adds a statement that gives the name `X` the value 5.
 fn add_constant(into: &mut Module, line: u32) -> Result<StmtId, NoMemory>
@@ -29,14 +40,14 @@ fn the_second_constant_of_a_name_is_refused(rt: HostRuntime) -> Result<(), Fail>
     let first = add_constant(&mut module, 1)?;
     module.push_top(first)?;
     let contracts = Contracts::new(alloc);
-    assert!(rt; check_profile(alloc, &module, &contracts) == Ok(()));
+    assert!(rt; check(alloc, &mut module, &contracts) == Ok(()));
     let second = add_constant(&mut module, 2)?;
     module.push_top(second)?;
     let want = ProfileError::Refused {
         line: 2,
         fault: ProfileFault::Duplicate,
     };
-    assert!(rt; check_profile(alloc, &module, &contracts) == Err(want));
+    assert!(rt; check(alloc, &mut module, &contracts) == Err(want));
     Ok(())
 }
 
@@ -68,7 +79,7 @@ fn names_that_nothing_defines_are_refused(rt: HostRuntime) -> Result<(), Fail> {
         line: 2,
         fault: ProfileFault::UnknownName,
     };
-    assert!(rt; check_profile(alloc, &module, &contracts) == Err(want));
+    assert!(rt; check(alloc, &mut module, &contracts) == Err(want));
     contracts.push(ContractLine {
         owner: Owner::Function(FnId { index: 0 }),
         kind: LineKind::Post,
@@ -76,6 +87,43 @@ fn names_that_nothing_defines_are_refused(rt: HostRuntime) -> Result<(), Fail> {
         expr: Some(value),
         names: None,
     })?;
-    assert!(rt; check_profile(alloc, &module, &contracts) == Err(want));
+    assert!(rt; check(alloc, &mut module, &contracts) == Err(want));
+    Ok(())
+}
+
+#[test]
+fn parameters_of_checked_functions_need_types(rt: HostRuntime) -> Result<(), Fail> {
+    let alloc = rt.alloc();
+    let mut module = Module::new(alloc);
+    let name = module.add_name("f")?;
+    let pass = module.add_stmt(StmtNode::Pass { line: 4 })?;
+    let parameter = ParameterNode {
+        name,
+        annotation: None,
+        default: None,
+    };
+    let function = module.add_stmt(StmtNode::Def {
+        line: 3,
+        last: 4,
+        name,
+        parameters: vec![in alloc; parameter]?,
+        result: None,
+        body: vec![in alloc; pass]?,
+    })?;
+    module.push_top(function)?;
+    let mut contracts = Contracts::new(alloc);
+    assert!(rt; check(alloc, &mut module, &contracts) == Ok(()));
+    contracts.push(ContractLine {
+        owner: Owner::Function(FnId { index: 0 }),
+        kind: LineKind::Raises,
+        line: 4,
+        expr: None,
+        names: None,
+    })?;
+    let want = ProfileError::Refused {
+        line: 3,
+        fault: ProfileFault::MissingType,
+    };
+    assert!(rt; check(alloc, &mut module, &contracts) == Err(want));
     Ok(())
 }

@@ -28,7 +28,7 @@ module _ {X : Type 0} (P : X → Type 0) (x : X) (xs : List X) (h : All P (x ∷
 
 -- what holds of each thing where it held before, and what each comes to, which stays
 module _ {X Y : Type 0} (P Q : X → Type 0) (f g : X → Y) (kept : (x : X) → P x → Q x × (g x ≡ f x)) where
-  all_kept : (xs : List X) → All P xs → All Q xs × (map g xs ≡ map f xs)
+  pub all_kept : (xs : List X) → All P xs → All Q xs × (map g xs ≡ map f xs)
   all_kept [] h = (all_none Q, refl)
   all_kept (x ∷ xs) h =
       let here = kept x (all_first P x xs h) in

@@ -1,6 +1,6 @@
 ghost use Rattle.std.specs.Prelude.{◌≡◌, ◌<◌, length, IfOk};
 ghost use Rattle.spec_types.specs.Types.{line_of_type};
-ghost use Rattle.py_tree.specs.Arena.{IsModule, shown_type};
+ghost use Rattle.py_tree.specs.Arena.{shown_type};
 ghost use Rattle.py_tree.specs.Types.{IsTypeBelow, optional_type};
 ghost use Rattle.py_types.specs.Given.{Grows};
 ghost use Rattle.read_annotations.specs.Reading.{IsThere, read, read_type, shown_annotation, shown_in};

@@ -1,4 +1,4 @@
--- Which contents are admitted, and as what program. The phases are encoding, tokens, load, lines, nesting, blocks, contract lines, names with the profile, and the form that is run, and the first that refuses decides.
+-- Which contents are admitted under which bounds, and as what program. The phases are encoding, tokens, load, lines, nesting, blocks, contract lines, names with the profile, and the form that is run, and the first that refuses decides.
 use Rattle.std.specs.Prelude.{ℕ, suc, ◌==◌, List, [], take, Option, Some, None, Result, Ok, Err, codes, if◌then◌else◌}
 use Rattle.std.specs.List.{count_by}
 use Rattle.std.specs.Str.{is_utf8, chars}
@@ -10,6 +10,7 @@ use Rattle.spec_tokens.specs.Letters.{letters_of}
 use Rattle.spec_tokens.specs.Cutting.{pieces_of}
 use Rattle.spec_tokens.specs.Tokens.{Scan, tokens_of}
 use Rattle.spec_trees.specs.Module.{Block}
+use Rattle.spec_first_trees.specs.Bounds.{Bounds}
 use Rattle.spec_first_trees.specs.Program.{Function, Program}
 use Rattle.spec_syntax.specs.Lines.{word_lines}
 use Rattle.spec_syntax.specs.Phases.{Misfit, too_deep, no_line, misplaced, parsed}
@@ -68,25 +69,27 @@ abbrev pub as_profile : Block → Option names.Refusal → Result Program Refusa
 as_profile b None = formed (functions_of [] b)
 as_profile b (Some r) = refused r.line (profile_fault_name r.fault)
 
--- the program of a block whose contract lines are read
-abbrev pub as_contracts : Block → Result (List ContractLine) contracts.Refusal → Result Program Refusal
-as_contracts b (Ok ls) = as_profile b (profile_refusal b ls)
-as_contracts b (Err r) = refused r.line (contract_fault_name r.fault)
+-- the phases behind, under these bounds
+module _ (bounds : Bounds) where
+  -- the program of a block whose contract lines are read
+  abbrev pub as_contracts : Block → Result (List ContractLine) contracts.Refusal → Result Program Refusal
+  as_contracts b (Ok ls) = as_profile b (profile_refusal b ls bounds.max_len bounds.max_nest)
+  as_contracts b (Err r) = refused r.line (contract_fault_name r.fault)
 
-abbrev pub as_block : Result Block Misfit → Result Program Refusal
-as_block (Ok b) = as_contracts b (contracts_of b)
-as_block (Err (no_line n)) = refused n (codes "Line")
-as_block (Err (too_deep n)) = refused n (codes "TooDeep")
-as_block (Err (misplaced n)) = refused n (codes "Block")
+  abbrev pub as_block : Result Block Misfit → Result Program Refusal
+  as_block (Ok b) = as_contracts b (contracts_of b)
+  as_block (Err (no_line n)) = refused n (codes "Line")
+  as_block (Err (too_deep n)) = refused n (codes "TooDeep")
+  as_block (Err (misplaced n)) = refused n (codes "Block")
 
-abbrev pub as_tokens : Result Scan tokens.Refusal → Result Program Refusal
-as_tokens (Ok s) = as_block (parsed (word_lines s))
-as_tokens (Err r) = refused r.line (fault_name r.fault)
+  abbrev pub as_tokens : Result Scan tokens.Refusal → Result Program Refusal
+  as_tokens (Ok s) = as_block (parsed (word_lines s))
+  as_tokens (Err r) = refused r.line (fault_name r.fault)
 
--- the program of a text
-unfoldable pub admit_text : List ℕ → Result Program Refusal
-admit_text text = as_tokens (tokens_of text (pieces_of (letters_of text)))
+  -- the program of a text
+  unfoldable pub admit_text : List ℕ → Result Program Refusal
+  admit_text text = as_tokens (tokens_of text (pieces_of (letters_of text)))
 
--- the program of a content, or the first refusal
-unfoldable pub admit : List ℕ → Result Program Refusal
-admit content = if is_utf8 content then admit_text (chars content) else refused (invalid_line content) (codes "NotUtf8")
+  -- the program of a content, or the first refusal
+  unfoldable pub admit : List ℕ → Result Program Refusal
+  admit content = if is_utf8 content then admit_text (chars content) else refused (invalid_line content) (codes "NotUtf8")

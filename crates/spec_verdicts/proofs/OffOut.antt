@@ -15,7 +15,7 @@ admission_off_out b name (Err r) = refl
 
 entry_off_out : (b : Bounds) (name : List ℕ) (answer : Result (List ℕ) ReadError) → off_out (entry_of true b name answer) ≡ off_out (entry_of false b name answer)
 unfolding report_of
-entry_off_out b name (Ok content) = admission_off_out b name (admit content)
+entry_off_out b name (Ok content) = admission_off_out b name (admit b content)
 entry_off_out b name (Err TooLong) = refl
 entry_off_out b name (Err Failed) = refl
 entry_off_out b name (Err NoMemory) = refl

@@ -15,16 +15,16 @@ use Rattle.spec_verdicts.specs.declared.TheConstants.{READ_LIMIT}
 pub data Outcome (b : Bounds) (files : List (List ℕ × List ℕ)) (left : Option ℕ) (name : List ℕ) (status : ℕ) (failed : Bool) : Type 0 where
   Passing : Passes b files name → status ≡ 0 → failed ≡ false → Outcome b files left name status failed
   Failing : Fails b files name → status ≡ 1 → failed ≡ false → Outcome b files left name status failed
-  Refusing : IsRefused files name → status ≡ 2 → failed ≡ false → Outcome b files left name status failed
+  Refusing : IsRefused b files name → status ≡ 2 → failed ≡ false → Outcome b files left name status failed
   Unread : (content_of files name ≡ None) ⊎ (left ≡ Some 0) → status ≡ 4 → failed ≡ true → Outcome b files left name status failed
 
 -- a program passes, or fails
-program_case : (b : Bounds) (files : List (List ℕ × List ℕ)) (left : Option ℕ) (name : List ℕ) (p : Program) → IsAdmitted files name p → (wrong : Bool) → list_any (has_error b) p.functions ≡ wrong → Outcome b files left name (if wrong then 1 else 0) false
+program_case : (b : Bounds) (files : List (List ℕ × List ℕ)) (left : Option ℕ) (name : List ℕ) (p : Program) → IsAdmitted b files name p → (wrong : Bool) → list_any (has_error b) p.functions ≡ wrong → Outcome b files left name (if wrong then 1 else 0) false
 program_case b files left name p a true e = Failing (record { program = p; admitted = a; wrong = e }) refl refl
 program_case b files left name p a false e = Passing (record { program = p; admitted = a; calm = e }) refl refl
 
 -- a content that is short enough is a program, or is refused at a line
-content_case : (all : Bool) (b : Bounds) (files : List (List ℕ × List ℕ)) (left : Option ℕ) (name content : List ℕ) → content_of files name ≡ Some content → length content ≤ READ_LIMIT → (a : Result Program Refusal) → admit content ≡ a → Outcome b files left name (report_of_admission all name b a).status false
+content_case : (all : Bool) (b : Bounds) (files : List (List ℕ × List ℕ)) (left : Option ℕ) (name content : List ℕ) → content_of files name ≡ Some content → length content ≤ READ_LIMIT → (a : Result Program Refusal) → admit b content ≡ a → Outcome b files left name (report_of_admission all name b a).status false
 content_case all b files left name content found short (Ok p) e = program_case b files left name p (record { content = content; found = found; short = short; admitted = e }) (list_any (has_error b) p.functions) refl
 content_case all b files left name content found short (Err r) e = Refusing (record { content = content; found = found; refused = inr (r, e) }) refl refl
 
@@ -32,7 +32,7 @@ content_case all b files left name content found short (Err r) e = Refusing (rec
 within_case : (all : Bool) (b : Bounds) (files : List (List ℕ × List ℕ)) (left : Option ℕ) (name content : List ℕ) → content_of files name ≡ Some content → (fits : Bool) → nat_le (length content) READ_LIMIT ≡ fits
     → Outcome b files left name (entry_of all b name (if fits then Ok content else Err TooLong)).status (is_failed (if fits then Ok content else Err TooLong))
 unfolding report_of
-within_case all b files left name content found true e = content_case all b files left name content found (grind (arith, nat_tests)) (admit content) refl
+within_case all b files left name content found true e = content_case all b files left name content found (grind (arith, nat_tests)) (admit b content) refl
 within_case all b files left name content found false e = Refusing (record { content = content; found = found; refused = inl (grind (arith, nat_tests)) }) refl refl
 
 -- a name is held by the files, or its read fails
@@ -90,7 +90,7 @@ one_step b files left name names s failed rest (Unread p is f) later e = let k :
 
 -- one more target, where one is refused
 two_step : (b : Bounds) (files : List (List ℕ × List ℕ)) (left : Option ℕ) (name : List ℕ) (names : List (List ℕ)) (s : ℕ) (failed : Bool) (rest : Total) → Outcome b files left name s failed
-    → (rest.status ≡ 2 → SomeTarget (IsRefused files) names) → max s (if failed then nothing else rest).status ≡ 2 → SomeTarget (IsRefused files) (name ∷ names)
+    → (rest.status ≡ 2 → SomeTarget (IsRefused b files) names) → max s (if failed then nothing else rest).status ≡ 2 → SomeTarget (IsRefused b files) (name ∷ names)
 two_step b files left name names s failed rest (Passing p is f) later e = let k : max s rest.status ≡ 2 = rest_counts s failed rest 2 f e in inr (later (omega arith))
 two_step b files left name names s failed rest (Failing p is f) later e = let k : max s rest.status ≡ 2 = rest_counts s failed rest 2 f e in inr (later (omega arith))
 two_step b files left name names s failed rest (Refusing p is f) later e = inl p
@@ -125,7 +125,7 @@ pub one_means : (all : Bool) (b : Bounds) (names : List (List ℕ)) (files : Lis
 one_means all b names files left e = (low_means all b names files left 1 e (omega arith), fails_some all b names files left e)
 
 -- the status is 2 only where some target is refused
-pub two_means : (all : Bool) (b : Bounds) (names : List (List ℕ)) (files : List (List ℕ × List ℕ)) (left : Option ℕ) → (targets_total all b names files left).status ≡ 2 → SomeTarget (IsRefused files) names
+pub two_means : (all : Bool) (b : Bounds) (names : List (List ℕ)) (files : List (List ℕ × List ℕ)) (left : Option ℕ) → (targets_total all b names files left).status ≡ 2 → SomeTarget (IsRefused b files) names
 two_means all b [] files left e = absurd (omega (arith, e))
 two_means all b (name ∷ names) files left e = two_step b files left name names _ _ (targets_total all b names files (next_left left)) (outcome_of all b files left name) (two_means all b names files (next_left left)) e
 

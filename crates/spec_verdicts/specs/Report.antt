@@ -81,7 +81,7 @@ report_of_admission all name bounds (Err r) = refused (refusal_line name r.line 
 
 -- what a content adds
 unfoldable pub report_of : Bool → Bounds → List ℕ → List ℕ → Report
-report_of all bounds name content = report_of_admission all name bounds (admit content)
+report_of all bounds name content = report_of_admission all name bounds (admit bounds content)
 
 -- what one target adds, by what its read answers
 abbrev pub entry_of : Bool → Bounds → List ℕ → Result (List ℕ) ReadError → Total

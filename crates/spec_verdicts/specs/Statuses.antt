@@ -8,30 +8,30 @@ use Rattle.spec_admission.specs.Admission.{Refusal, admit}
 use Rattle.spec_verdicts.specs.Report.{has_error}
 use Rattle.spec_verdicts.specs.declared.TheConstants.{READ_LIMIT}
 
--- the file of this name is admitted as a program
-pub record IsAdmitted (files : List (List ℕ × List ℕ)) (name : List ℕ) (p : Program) : Type 0 where
+-- the file of this name is admitted under these bounds as a program
+pub record IsAdmitted (bounds : Bounds) (files : List (List ℕ × List ℕ)) (name : List ℕ) (p : Program) : Type 0 where
   pub content : List ℕ
   pub found : content_of files name ≡ Some content
   pub short : length content ≤ READ_LIMIT
-  pub admitted : admit content ≡ Ok p
+  pub admitted : admit bounds content ≡ Ok p
 
 -- the file is admitted, and no condition of it has an error
 pub record Passes (bounds : Bounds) (files : List (List ℕ × List ℕ)) (name : List ℕ) : Type 0 where
   pub program : Program
-  pub admitted : IsAdmitted files name program
+  pub admitted : IsAdmitted bounds files name program
   pub calm : list_any (has_error bounds) program.functions ≡ false
 
 -- the file is admitted, and some condition of it has an error
 pub record Fails (bounds : Bounds) (files : List (List ℕ × List ℕ)) (name : List ℕ) : Type 0 where
   pub program : Program
-  pub admitted : IsAdmitted files name program
+  pub admitted : IsAdmitted bounds files name program
   pub wrong : list_any (has_error bounds) program.functions ≡ true
 
 -- the file is too long, or its content is refused at a line
-pub record IsRefused (files : List (List ℕ × List ℕ)) (name : List ℕ) : Type 0 where
+pub record IsRefused (bounds : Bounds) (files : List (List ℕ × List ℕ)) (name : List ℕ) : Type 0 where
   pub content : List ℕ
   pub found : content_of files name ≡ Some content
-  pub refused : (READ_LIMIT < length content) ⊎ ((r : Refusal) × (admit content ≡ Err r))
+  pub refused : (READ_LIMIT < length content) ⊎ ((r : Refusal) × (admit bounds content ≡ Err r))
 
 -- P holds of each target
 abbrev pub EachTarget : (List ℕ → Type 0) → List (List ℕ) → Type 0

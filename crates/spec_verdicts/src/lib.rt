@@ -57,7 +57,7 @@ pub fn status_1_means_that_some_target_fails()
 
 /// Where the status of the targets is 2, some target is refused.
 pub fn status_2_means_that_some_target_is_refused()
-    ensures { (all : Bool) (b : Bounds) (names : List (List ℕ)) (files : List (List ℕ × List ℕ)) (left : Option ℕ) → (targets_total all b names files left).status ≡ 2 → SomeTarget (IsRefused files) names }
+    ensures { (all : Bool) (b : Bounds) (names : List (List ℕ)) (files : List (List ℕ × List ℕ)) (left : Option ℕ) → (targets_total all b names files left).status ≡ 2 → SomeTarget (IsRefused b files) names }
 {}
 
 /// Where the status of the targets is 4, the read of some target fails: the files do not hold its name, or the read is

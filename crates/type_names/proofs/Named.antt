@@ -1,5 +1,5 @@
 -- What names stand for in annotations.
-use Rattle.std.proofs.Common.{◌++◌, slice_get, take, ◌≡◌, ℕ, zero, suc, ◌+◌, ◌<◌, ◌≤◌, Bool, true, false, List, [], ◌∷◌, length, map, codes, drop, drop-cons, get_or, slice_set, replicate, Option, Some, None, refl, sym, ap, arith, ◌∙◌, if◌then◌else◌, add-one}
+use Rattle.std.proofs.Common.{◌++◌, slice_get, take, ◌≡◌, ℕ, zero, suc, ◌+◌, ◌<◌, ◌≤◌, Bool, true, false, List, [], ◌∷◌, length, map, drop, drop-cons, get_or, slice_set, replicate, Option, Some, None, refl, sym, ap, arith, ◌∙◌, if◌then◌else◌, add-one}
 use Rattle.std.proofs.lemmas.List.{get_or-map, map_more}
 use Rattle.std.proofs.lemmas.Option.{get_or_from_slice_get}
 use Rattle.std.proofs.lemmas.Slice.Eq.{bytes_eq-Decides}
@@ -9,9 +9,8 @@ use Rattle.spec_uses.specs.declared.Meaning.{Meaning}
 use Rattle.spec_uses.specs.declared.Meaning.TheVariants as meaning
 use Rattle.spec_uses.specs.Meanings.{meaning_in}
 use Rattle.spec_types.specs.declared.TypeName.{TypeName}
-use Rattle.spec_types.specs.declared.TypeName.TheVariants as name
-use Rattle.spec_types.specs.Classes.{ClassOf, class_number, classes, number_from}
-use Rattle.spec_types.specs.Names.{class_name, meant_type, type_name}
+use Rattle.spec_types.specs.Classes.{class_number, classes, number_from}
+use Rattle.spec_types.specs.Names.{meant_type, type_name}
 use Rattle.py_tree.specs.Names.{AreDistinct}
 use Rattle.py_tree.specs.Arena.{State}
 use Rattle.module_classes.specs.declared.class.Class.{Class}

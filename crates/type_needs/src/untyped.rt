@@ -1,4 +1,4 @@
-ghost use Rattle.std.specs.Prelude.{◌≡◌, false, get_or, length, map, IfOk};
+ghost use Rattle.std.specs.Prelude.{◌≡◌, false, length, map, IfOk};
 ghost use Rattle.std.specs.List.{All, flat_map};
 ghost use Rattle.spec_types.specs.Names.{type_name};
 ghost use Rattle.spec_types.specs.Needs.{is_class_reached, needs_types, signature_refusals, type_refusals};

@@ -1,0 +1,5 @@
+pub mod Mapping
+pub mod Parameters
+pub mod Given
+pub mod Listed
+pub mod Numbers
