@@ -34,8 +34,8 @@ use Rattle.py_profile.specs.Checking.{Answers}
 use Rattle.py_profile.specs.declared.errors.ProfileError.{ProfileError}
 use Rattle.py_profile.specs.declared.errors.ProfileError.TheVariants as profile
 use Rattle.first_tree.specs.Arena.{ModuleState}
-use Rattle.first_forms.specs.declared.errors.FormError.{FormError}
-use Rattle.first_forms.specs.declared.errors.FormError.TheVariants as form
+use Rattle.first_promises.specs.declared.errors.FormError.{FormError}
+use Rattle.first_promises.specs.declared.errors.FormError.TheVariants as form
 use Rattle.first_forms.specs.Formed.{AreFormed}
 use Rattle.crosshair.specs.Answers.{IsAdmission, kind_name}
 use Rattle.crosshair.specs.Refusals.{token_refusal, syntax_refusal, contract_refusal, form_refusal, profile_kind, profile_refused}
@@ -111,21 +111,21 @@ kind_is fault.Form = refl
 
 -- the functions of a module whose contract lines are read, and which is another state behind them
 module _ (b : Bounds) (bytes : List ℕ) (s : Scan) (m n : State) (ls : List ContractLine) (h : IsScan (chars bytes) (Ok s)) (g : GivesModule (Ok m) (parsed (word_lines s))) (c : GivesContracts n (Ok ls) (contracts_of (module_tree m).body)) (t : module_tree n ≡ module_tree m) where
-  profile_is : admit_text b (chars bytes) ≡ as_profile (module_tree n).body (profile_refusal (module_tree n).body (map (line_in n) ls) b.max_len b.max_nest)
-  profile_is = block_is b bytes s m h g ∙ ap (as_contracts b (module_tree m).body) c.1 ∙ ap (λ (u : tree.Module). as_profile u.body (profile_refusal u.body (map (line_in n) ls) b.max_len b.max_nest)) (sym t)
+  profile_is : admit_text b (chars bytes) ≡ as_profile (module_tree n).body (map (line_in n) ls) (profile_refusal (module_tree n).body (map (line_in n) ls) b.max_len b.max_nest)
+  profile_is = block_is b bytes s m h g ∙ ap (as_contracts b (module_tree m).body) c.1 ∙ ap (λ (u : tree.Module). as_profile u.body (map (line_in n) ls) (profile_refusal u.body (map (line_in n) ls) b.max_len b.max_nest)) (sym t)
 
   pub names_refused : (e : ProfileError) → Answers (Err e) (profile_refusal (module_tree n).body (map (line_in n) ls) b.max_len b.max_nest) → IsAdmission (admit_text b (chars bytes)) (Err (profile_refused e))
-  names_refused (profile.Refused k f) p = profile_is ∙ ap (as_profile (module_tree n).body) p ∙ ap (refused k) (kind_is f)
+  names_refused (profile.Refused k f) p = profile_is ∙ ap (as_profile (module_tree n).body (map (line_in n) ls)) p ∙ ap (refused k) (kind_is f)
   names_refused profile.NoMemory p = tt
 
-  -- the functions are read behind the look-up of names, which leaves the statements
-  module _ (o : State) (v : module_tree o ≡ module_tree n) (u : ⊤) (p : Answers (Ok u) (profile_refusal (module_tree n).body (map (line_in n) ls) b.max_len b.max_nest)) where
-    functions_are : admit_text b (chars bytes) ≡ formed (functions_of [] (module_tree o).body)
-    functions_are = profile_is ∙ ap (as_profile (module_tree n).body) p ∙ ap (λ (w : tree.Module). formed (functions_of [] w.body)) (sym v)
+  -- the functions are read behind the look-up of names, which leaves the statements and the contract lines
+  module _ (o : State) (v : module_tree o ≡ module_tree n) (k : map (line_in o) ls ≡ map (line_in n) ls) (u : ⊤) (p : Answers (Ok u) (profile_refusal (module_tree n).body (map (line_in n) ls) b.max_len b.max_nest)) where
+    functions_are : admit_text b (chars bytes) ≡ formed (functions_of (map (line_in o) ls) (module_tree o).body)
+    functions_are = profile_is ∙ ap (as_profile (module_tree n).body (map (line_in n) ls)) p ∙ ap (λ (w : tree.Module). formed (functions_of (map (line_in n) ls) w.body)) (sym v) ∙ ap (λ qs. formed (functions_of qs (module_tree o).body)) (sym k)
 
-    pub functions_refused : (e : FormError) → AreFormed (Err e) (functions_of [] (module_tree o).body) → IsAdmission (admit_text b (chars bytes)) (Err (form_refusal e))
-    functions_refused (form.NotBuilt k) f = functions_are ∙ ap formed f
+    pub functions_refused : (e : FormError) → AreFormed (Err e) (functions_of (map (line_in o) ls) (module_tree o).body) → IsAdmission (admit_text b (chars bytes)) (Err (form_refusal e))
+    functions_refused (form.NotBuilt j) f = functions_are ∙ ap formed f
     functions_refused form.NoMemory f = tt
 
-    pub functions_admitted : (r : ModuleState) → AreFormed (Ok r) (functions_of [] (module_tree o).body) → IsAdmission (admit_text b (chars bytes)) (Ok r)
+    pub functions_admitted : (r : ModuleState) → AreFormed (Ok r) (functions_of (map (line_in o) ls) (module_tree o).body) → IsAdmission (admit_text b (chars bytes)) (Ok r)
     functions_admitted r f = functions_are ∙ ap formed f

@@ -1,9 +1,5 @@
 pub mod Admitting
 pub mod CommandWords
-pub mod Evaluation
 pub mod ExitRows
-pub mod Judging
 pub mod Laws
-pub mod Listings
 pub mod Texts
-pub mod Tries

@@ -1,9 +1,5 @@
 pub mod Answers
 pub mod Ends
-pub mod Evaluates
-pub mod Judges
-pub mod Listing
-pub mod Meaning
 pub mod Refusals
 pub mod SettingsOf
 pub mod Texts

@@ -9,8 +9,8 @@ use Rattle.spec_names.specs.declared.ProfileFault.{ProfileFault}
 use Rattle.spec_names.specs.declared.ProfileFault.TheVariants as fault
 use Rattle.py_profile.specs.declared.errors.ProfileError.{ProfileError}
 use Rattle.py_profile.specs.declared.errors.ProfileError.TheVariants as profile
-use Rattle.first_forms.specs.declared.errors.FormError.{FormError}
-use Rattle.first_forms.specs.declared.errors.FormError.TheVariants as form
+use Rattle.first_promises.specs.declared.errors.FormError.{FormError}
+use Rattle.first_promises.specs.declared.errors.FormError.TheVariants as form
 use Rattle.crosshair.specs.declared.admission.StageError.{StageError}
 use Rattle.crosshair.specs.declared.admission.StageError.TheVariants.{Refused, NoMemory}
 use Rattle.crosshair.specs.declared.refusals.RefusalKind.{RefusalKind}

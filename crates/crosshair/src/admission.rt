@@ -153,7 +153,7 @@ fn admit_text(alloc: Global, text: &str, bounds: &Bounds) -> Result<Module, Stag
     let contracts = conditions(alloc, &mut module)?;
     let (max_len, max_nest) = (bounds.max_len, bounds.max_nest);
     check_profile(alloc, &mut module, &contracts, max_len, max_nest)?;
-    Ok(functions(alloc, &module)?)
+    Ok(functions(alloc, &module, &contracts)?)
 }
 
 /// Reads a content, whose encoding is UTF-8, or else refuses it at the line of the first byte that begins no character.

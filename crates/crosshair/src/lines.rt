@@ -1,14 +1,13 @@
-ghost use Rattle.std.specs.Prelude.{◌≡◌, ◌++◌, List, IfOk, OnOk};
+ghost use Rattle.std.specs.Prelude.{◌≡◌, ◌++◌, List, map, IfOk, OnOk};
 ghost use Rattle.spec_calls.specs.Calls.{Number};
-ghost use Rattle.spec_calls.specs.Printing.{named, arguments_text, printed, shown};
+ghost use Rattle.spec_calls.specs.Printing.{named, arguments_text, more_text, printed, shown};
 ghost use Rattle.spec_verdicts.specs.Lines.{class_name, error_line, fault_text, info_line, limit_name, limit_text, refusal_line, verdict_line, which_returns};
 ghost use Rattle.first_tree.specs.declared.nodes.ExprNode.{ExprNode};
-ghost use Rattle.first_tree.specs.Functions.{function_in, parameters_in};
-ghost use Rattle.crosshair.specs.Meaning.{call_in, fault_in, verdict_in};
+ghost use Rattle.first_tree.specs.Functions.{function_in, int_parameter};
+ghost use Rattle.first_verdicts.specs.Meaning.{call_in, fault_in, verdict_in};
 
-use crate::calls::Call;
-use crate::verdicts::{Fault, Verdict};
-use first_tree::{ExcClass, FnNode, LimitKind, Parameters};
+use first_tree::{ExcClass, FnNode, LimitKind};
+use first_verdicts::{Call, Fault, Verdict};
 use spec_running::Value;
 use std::alloc::Global;
 use xh_outside::{Bytes, NoMemory};
@@ -30,18 +29,18 @@ pub fn verdict_line(
     name: &str,
     line: u32,
     function: &FnNode,
-    verdict: Verdict,
+    verdict: &Verdict,
 ) -> Result<Bytes, NoMemory>
-    ensures { IfOk result (λ text. (nodes : List ExprNode) → text ≡ verdict_line report_all name.now line (function_in nodes function.now) (verdict_in verdict)) }
+    ensures { IfOk result (λ text. (nodes : List ExprNode) → text ≡ verdict_line report_all name.now line (function_in nodes function.now) (verdict_in verdict.now)) }
 {
     let is_written = report_all | verdict.is_error();
     if !is_written {
         return Ok(Bytes::new(alloc));
     }
     match verdict {
-        Verdict::Error { call, fault } => error_line(alloc, name, line, function, call, fault),
+        Verdict::Error { call, fault } => error_line(alloc, name, line, function, call, *fault),
         Verdict::NotConfirmed { call, kind } => {
-            limit_line(alloc, name, line, function, call, kind)
+            limit_line(alloc, name, line, function, call, *kind)
         }
         Verdict::Unmet => info_line(alloc, name, line, "Unable to meet precondition."),
         Verdict::Confirmed => info_line(alloc, name, line, "Confirmed over all paths."),
@@ -64,10 +63,10 @@ fn limit_line(
     name: &str,
     line: u32,
     function: &FnNode,
-    call: Call,
+    call: &Call,
     kind: LimitKind,
 ) -> Result<Bytes, NoMemory>
-    ensures { IfOk result (λ text. (nodes : List ExprNode) → text ≡ info_line name.now line (limit_text (function_in nodes function.now) (call_in call) kind)) }
+    ensures { IfOk result (λ text. (nodes : List ExprNode) → text ≡ info_line name.now line (limit_text (function_in nodes function.now) (call_in call.now) kind)) }
 {
     let mut text = Bytes::new(alloc);
     text.extend(format!(in alloc; "{name}:{line}: info: Not confirmed. (")?.as_bytes())?;
@@ -84,10 +83,10 @@ fn error_line(
     name: &str,
     line: u32,
     function: &FnNode,
-    call: Call,
+    call: &Call,
     fault: Fault,
 ) -> Result<Bytes, NoMemory>
-    ensures { IfOk result (λ text. (nodes : List ExprNode) → text ≡ error_line name.now line (function_in nodes function.now) (call_in call) (fault_in fault)) }
+    ensures { IfOk result (λ text. (nodes : List ExprNode) → text ≡ error_line name.now line (function_in nodes function.now) (call_in call.now) (fault_in fault)) }
 {
     let mut text = Bytes::new(alloc);
     text.extend(format!(in alloc; "{name}:{line}: error: ")?.as_bytes())?;
@@ -101,10 +100,10 @@ fn add_fault(
     alloc: Global,
     text: &mut Bytes,
     function: &FnNode,
-    call: Call,
+    call: &Call,
     fault: Fault,
 ) -> Result<(), NoMemory>
-    ensures { OnOk result ((nodes : List ExprNode) → text.new ≡ text.old ++ fault_text (function_in nodes function.now) (call_in call) (fault_in fault)) }
+    ensures { OnOk result ((nodes : List ExprNode) → text.new ≡ text.old ++ fault_text (function_in nodes function.now) (call_in call.now) (fault_in fault)) }
 {
     match fault {
         Fault::WasFalse(value) => {
@@ -127,34 +126,46 @@ fn add_fault(
 }
 
 /// Appends the call `NAME(P1 = A1, P2 = A2)`.
-fn add_call(alloc: Global, text: &mut Bytes, function: &FnNode, call: Call) -> Result<(), NoMemory>
-    ensures { OnOk result ((nodes : List ExprNode) → text.new ≡ text.old ++ printed (function_in nodes function.now) (call_in call)) }
+fn add_call(alloc: Global, text: &mut Bytes, function: &FnNode, call: &Call) -> Result<(), NoMemory>
+    ensures { OnOk result ((nodes : List ExprNode) → text.new ≡ text.old ++ printed (function_in nodes function.now) (call_in call.now)) }
 {
     text.extend(function.name.as_slice())?;
     text.extend(b"(")?;
-    add_arguments(alloc, text, &function.parameters, call)?;
+    add_arguments(alloc, text, &function.parameters, &call.arguments)?;
     text.extend(b")")?;
     Ok(())
 }
 
-/// Appends the parameters with their arguments.
+/// Appends the parameters with their arguments, `P1 = A1, P2 = A2`.
 fn add_arguments(
     alloc: Global,
     text: &mut Bytes,
-    parameters: &Parameters,
-    call: Call,
+    parameters: &[Bytes],
+    arguments: &[i64],
 ) -> Result<(), NoMemory>
-    ensures { OnOk result (text.new ≡ text.old ++ arguments_text (parameters_in parameters.now) (call_in call)) }
+    ensures { OnOk result (text.new ≡ text.old ++ arguments_text (map int_parameter parameters.now) (map Number arguments.now)) }
 {
-    add_argument(alloc, text, &parameters.first, call.first)?;
-    let Some(second) = &parameters.second else {
+    let ([parameter, parameters @ ..], [argument, arguments @ ..]) = (parameters, arguments) else {
         return Ok(());
     };
-    text.extend(b", ")?;
-    match call.second {
-        Some(argument) => add_argument(alloc, text, second, argument),
-        None => Ok(()),
+    add_argument(alloc, text, parameter, *argument)?;
+    add_more(alloc, text, parameters, arguments)
+}
+
+/// Appends further parameters with their arguments, `, P2 = A2, P3 = A3`.
+fn add_more(
+    alloc: Global,
+    text: &mut Bytes,
+    parameters: &[Bytes],
+    arguments: &[i64],
+) -> Result<(), NoMemory>
+    ensures { OnOk result (text.new ≡ text.old ++ more_text (map int_parameter parameters.now) (map Number arguments.now)) }
+{
+    for i in 0..parameters.len().min(arguments.len()) {
+        text.extend(b", ")?;
+        add_argument(alloc, text, &parameters[i], arguments[i])?;
     }
+    Ok(())
 }
 
 /// Appends `NAME = ARGUMENT`.

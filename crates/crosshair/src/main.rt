@@ -2,11 +2,8 @@
 #![tactic(auto)]
 
 mod admission;
-mod calls;
 mod commands;
-mod evaluator;
 mod lines;
-mod operations;
 mod refusals;
 mod report;
 mod run;
@@ -14,7 +11,6 @@ mod settings;
 mod stop;
 #[cfg(test)]
 mod tests;
-mod verdicts;
 
 use run::run;
 use std::env;

@@ -12,15 +12,15 @@ ghost use Rattle.spec_verdicts.specs.Report.{entry_of, function_text, has_error,
 ghost use Rattle.spec_verdicts.specs.declared.TheConstants.{READ_LIMIT};
 ghost use Rattle.crosshair.specs.Ends.{Ends, HasStopCause, TellsRead};
 ghost use Rattle.first_tree.specs.Functions.{function_in};
-ghost use Rattle.crosshair.specs.Meaning.{condition_in};
+ghost use Rattle.first_verdicts.specs.Meaning.{IsConditionBelow, condition_in};
 ghost use Rattle.crosshair.specs.Texts.{condition_fails, condition_text, program_in};
 
 use crate::admission::{StageError, admit};
 use crate::lines::{refusal_line, verdict_line};
 use crate::settings::Settings;
 use crate::stop::Stop;
-use crate::verdicts::{Condition, Verdict, verdict_of};
 use first_tree::{FnNode, Module};
+use first_verdicts::{Condition, verdict_of};
 use spec_verdicts::READ_LIMIT;
 use std::alloc::Global;
 use xh_outside::{Bytes, Files, NoMemory, ReadError, Sink, write_all};
@@ -31,7 +31,7 @@ fn line_of(function: &FnNode, condition: Condition) -> u32
 {
     match condition {
         Condition::Raises => function.line,
-        Condition::Post => function.post_line,
+        Condition::Post(post) => post.line,
     }
 }
 
@@ -45,19 +45,19 @@ fn add_condition(
     settings: &Settings,
     text: &mut Bytes,
 ) -> Result<bool, NoMemory>
-    requires { IsFunctionBelow (length trees.now.nodes) function.now }
+    requires function { IsFunctionBelow (length trees.now.nodes) function.now }
+    requires condition { IsConditionBelow (length trees.now.nodes) condition }
     ensures text { OnOk result (text.new ≡ text.old ++ condition_text settings.now.report_all name.now (bounds_of settings.now.bounds) (function_in trees.now.nodes function.now) (condition_in trees.now.nodes function.now condition)) }
     ensures fails { IfOk result (λ fails. fails ≡ condition_fails (bounds_of settings.now.bounds) (function_in trees.now.nodes function.now) (condition_in trees.now.nodes function.now condition)) }
 {
     let verdict = verdict_of(alloc, trees, function, condition, &settings.bounds)?;
     let line = line_of(function, condition);
-    let piece = verdict_line(alloc, settings.report_all, name, line, function, verdict)?;
+    let piece = verdict_line(alloc, settings.report_all, name, line, function, &verdict)?;
     text.extend(piece.as_slice())?;
     Ok(verdict.is_error())
 }
 
 /// Appends the lines of a function's conditions, and answers whether one is an error.
-#[tactic(auto, using(crate::proofs::Texts::has_error_parts))]
 fn add_function(
     alloc: Global,
     name: &str,
@@ -70,25 +70,13 @@ fn add_function(
     ensures text { OnOk result (text.new ≡ text.old ++ function_text settings.now.report_all name.now (bounds_of settings.now.bounds) (function_in trees.now.nodes function.now)) }
     ensures fails { IfOk result (λ fails. fails ≡ has_error (bounds_of settings.now.bounds) (function_in trees.now.nodes function.now)) }
 {
-    let raises = add_condition(
-        alloc,
-        name,
-        trees,
-        function,
-        Condition::Raises,
-        settings,
-        text,
-    )?;
-    let breaks = add_condition(
-        alloc,
-        name,
-        trees,
-        function,
-        Condition::Post,
-        settings,
-        text,
-    )?;
-    Ok(raises | breaks)
+    let raises = Condition::Raises;
+    let mut fails = add_condition(alloc, name, trees, function, raises, settings, text)?;
+    for post in &function.posts {
+        let post = Condition::Post(*post);
+        fails |= add_condition(alloc, name, trees, function, post, settings, text)?;
+    }
+    Ok(fails)
 }
 
 /// Appends the lines of a program's functions, and answers whether one is an error.

@@ -1,13 +1,14 @@
-ghost use Rattle.std.specs.Prelude.{◌≡◌, ◌<◌, ◌≤◌, length, IfOk};
+ghost use Rattle.std.specs.Prelude.{◌<◌, ◌≤◌, ◌^◌, length};
 
+use crate::admission::admit;
 use crate::report::add_program;
 use crate::run::run;
 use crate::settings::Settings;
-use first_tree::{BinaryOp, Bounds, CompareOp, ExprId, ExprNode, FnNode, Module, Parameters};
+use first_tree::Bounds;
 use std::alloc::Global;
 use std::process::Abort;
 use std::test::Fail;
-use xh_outside::{Bytes, MemFiles, MemSink, Name, NoMemory, Words};
+use xh_outside::{Bytes, MemFiles, MemSink, Name, Words};
 
 const USAGE: &str = "usage: crosshair check [OPTIONS] FILE[:LINE]...\n       crosshair demo N\n";
 
@@ -169,7 +170,7 @@ fn prints_all_results_only_where_asked(rt: HostRuntime) -> Result<(), Fail> {
 #[test]
 fn refuses_contents(rt: HostRuntime) -> Result<(), Fail> {
     let alloc = rt.alloc();
-    let table: [(&[u8], &str); 26] = [
+    let table: [(&[u8], &str); 29] = [
         (b"# \xff\n", "m.py:1: refused: NotUtf8\n"),
         (b"# \n\n\xc3(\n", "m.py:3: refused: NotUtf8\n"),
         // the encoding is tried first
@@ -215,7 +216,16 @@ fn refuses_contents(rt: HostRuntime) -> Result<(), Fail> {
             b"pass\n\ndef len(x):\n    pass\n",
             "m.py:3: refused: Duplicate\n",
         ),
-        (b"pass\n", "m.py:1: refused: NotBuilt\n"),
+        (b"pass\n\nX = 1\n", "m.py:3: refused: NotBuilt\n"),
+        (
+            b"pass\n\nclass C:\n    pass\n",
+            "m.py:3: refused: NotBuilt\n",
+        ),
+        (b"def f():\n    pass\n", "m.py:2: refused: NotBuilt\n"),
+        (
+            b"def f(x: str):\n    'post: 1'\n    return 1\n",
+            "m.py:1: refused: NotBuilt\n",
+        ),
         // uses of names are checked before the form, in bodies and in contract lines
         (
             b"pass\n\ndef f(x):\n    return y\n",
@@ -347,184 +357,74 @@ fn a_write_fails_once(rt: HostRuntime) -> Result<(), Fail> {
     Ok(())
 }
 
-fn bytes_of(alloc: Global, text: &[u8]) -> Result<Bytes, NoMemory> {
-    let mut copy = Bytes::new(alloc);
-    copy.extend(text)?;
-    Ok(copy)
-}
-
-/// Adds a name to a trees.
-fn add_name(alloc: Global, trees: &mut Module, text: &[u8]) -> Result<ExprId, NoMemory>
-    ensures grown { length trees.old.nodes ≤ length trees.new.nodes }
-    ensures here { IfOk result (λ e. e.index < length trees.new.nodes) }
-{
-    let name = bytes_of(alloc, text)?;
-    trees.add_expr(ExprNode::Name { name, line: 1 })
-}
-
-/// Adds an integer to a trees.
-fn add_int(trees: &mut Module, value: u32) -> Result<ExprId, NoMemory>
-    ensures grown { length trees.old.nodes ≤ length trees.new.nodes }
-    ensures here { IfOk result (λ e. e.index < length trees.new.nodes) }
-{
-    trees.add_expr(ExprNode::Int { value, line: 1 })
-}
-
-/// Adds an operation on two names to a trees.
-fn add_operation(
-    alloc: Global,
-    trees: &mut Module,
-    op: BinaryOp,
-    left: &[u8],
-    right: &[u8],
-) -> Result<ExprId, NoMemory>
-    ensures grown { length trees.old.nodes ≤ length trees.new.nodes }
-    ensures here { IfOk result (λ e. e.index < length trees.new.nodes) }
-{
-    let left = add_name(alloc, trees, left)?;
-    let right = add_name(alloc, trees, right)?;
-    trees.add_expr(ExprNode::Binary {
-        op,
-        left,
-        right,
-        line: 1,
-    })
-}
-
-/// Adds a comparison to a trees.
-fn add_comparison(
-    trees: &mut Module,
-    op: CompareOp,
-    left: ExprId,
-    right: ExprId,
-) -> Result<ExprId, NoMemory>
-    requires left { left.index < length trees.old.nodes }
-    requires right { right.index < length trees.old.nodes }
-    ensures grown { length trees.old.nodes ≤ length trees.new.nodes }
-    ensures here { IfOk result (λ e. e.index < length trees.new.nodes) }
-{
-    trees.add_expr(ExprNode::Compare {
-        op,
-        left,
-        right,
-        line: 1,
-    })
-}
-
-/// Adds a function whose parameters are `x` and perhaps another. Its `def` and its post condition stand on these lines.
-fn add_node(
-    alloc: Global,
-    trees: &mut Module,
-    name: &[u8],
-    second: Option<&[u8]>,
-    lines: (u32, u32),
-    parts: (ExprId, ExprId),
-) -> Result<(), NoMemory>
-    requires post { parts.0.index < length trees.old.nodes }
-    requires value { parts.1.index < length trees.old.nodes }
-    ensures { trees.new.nodes ≡ trees.old.nodes }
-{
-    let second = match second {
-        Some(text) => Some(bytes_of(alloc, text)?),
-        None => None,
-    };
-    trees.add_function(FnNode {
-        name: bytes_of(alloc, name)?,
-        line: lines.0,
-        parameters: Parameters {
-            first: bytes_of(alloc, b"x")?,
-            second,
-        },
-        post: parts.0,
-        post_line: lines.1,
-        value: parts.1,
-    })
-}
-
-/// Adds `add(x, y)`, which stands on the lines from 1 to 3, and whose result without y is x.
-fn add_sum(alloc: Global, trees: &mut Module) -> Result<(), NoMemory> {
-    let difference = add_operation(alloc, trees, BinaryOp::Subtract, b"__return__", b"y")?;
-    let x = add_name(alloc, trees, b"x")?;
-    let post = add_comparison(trees, CompareOp::Equal, difference, x)?;
-    let value = add_operation(alloc, trees, BinaryOp::Add, b"x", b"y")?;
-    add_node(alloc, trees, b"add", Some(b"y"), (1, 2), (post, value))
-}
-
-/// Adds `sq(x)`, which stands on the lines from 4 to 6, and whose result is said to be above 0.
-fn add_square(alloc: Global, trees: &mut Module) -> Result<(), NoMemory> {
-    let returned = add_name(alloc, trees, b"__return__")?;
-    let zero = add_int(trees, 0)?;
-    let post = add_comparison(trees, CompareOp::Greater, returned, zero)?;
-    let value = add_operation(alloc, trees, BinaryOp::Multiply, b"x", b"x")?;
-    add_node(alloc, trees, b"sq", None, (4, 5), (post, value))
-}
-
-/// Adds `sub(x, y)`, whose `def` stands on line 7, and whose result is said on line 9 to be below 1.
-fn add_difference(alloc: Global, trees: &mut Module) -> Result<(), NoMemory> {
-    let returned = add_name(alloc, trees, b"__return__")?;
-    let one = add_int(trees, 1)?;
-    let post = add_comparison(trees, CompareOp::Less, returned, one)?;
-    let value = add_operation(alloc, trees, BinaryOp::Subtract, b"x", b"y")?;
-    add_node(alloc, trees, b"sub", Some(b"y"), (7, 9), (post, value))
-}
-
-/// Adds `lost(x, y)`, whose `def` stands on line 11, and which returns a name that it does not have.
-fn add_lost(alloc: Global, trees: &mut Module) -> Result<(), NoMemory> {
-    let post = add_int(trees, 1)?;
-    let value = add_name(alloc, trees, b"z")?;
-    add_node(alloc, trees, b"lost", Some(b"y"), (11, 12), (post, value))
-}
-
+// Checks a text where integers have so few bits, and compares what is reported.
 fn expect_report(
     rt: &impl Abort,
     alloc: Global,
-    trees: &Module,
+    content: &[u8],
+    int_bits: u8,
     want: (bool, &str),
-) -> Result<(), Fail> {
-    let mut text = Bytes::new(alloc);
+) -> Result<(), Fail>
+    requires content { length content.now < 2 ^ 31 }
+    requires least { 1 ≤ int_bits }
+    requires most { int_bits ≤ 64 }
+{
     let settings = Settings {
-        bounds: Bounds::standard(),
-        report_all: false,
+        bounds: Bounds {
+            int_bits,
+            max_len: 3,
+            char_bits: 7,
+            max_nest: 2,
+            max_steps: 2000,
+            max_depth: 20,
+        },
+        report_all: true,
         targets: Words::new(alloc),
     };
-    let fails = add_program(alloc, "m.py", trees, &settings, &mut text)?;
+    let trees = admit(alloc, content, &settings.bounds)?;
+    let mut text = Bytes::new(alloc);
+    let fails = add_program(alloc, "m.py", &trees, &settings, &mut text)?;
     assert_eq!(rt; fails, want.0);
     assert_eq!(rt; text.as_slice(), want.1.as_bytes());
     Ok(())
 }
 
 #[test]
-fn reports_each_function(rt: HostRuntime) -> Result<(), Fail> {
-    let alloc = rt.alloc();
-    let mut trees = Module::new(alloc);
-    expect_report(&rt, alloc, &trees, (false, ""))?;
-    add_sum(alloc, &mut trees)?;
-    expect_report(&rt, alloc, &trees, (false, ""))?;
-    add_square(alloc, &mut trees)?;
-    expect_report(
-        &rt,
-        alloc,
-        &trees,
-        (
-            true,
-            "m.py:5: error: false when calling sq(x = 0) (which returns 0)\n",
-        ),
-    )
+fn reports_each_contract_line(rt: HostRuntime) -> Result<(), Fail> {
+    let content =
+        b"def f(x: int) -> int:\n    '''\n    pre: x > 1\n    post: __return__ > x\n    post[x]:\n        # two lines\n        __return__ > 3\n        __return__ * x > 0\n    raises: TypeError\n    '''\n    return x + 1\n";
+    let want =
+        "m.py:1: info: Confirmed over all paths.\nm.py:4: info: Confirmed over all paths.\nm.py:7: error: false when calling f(x = 2) (which returns 3)\nm.py:8: info: Confirmed over all paths.\n";
+    expect_report(&rt, rt.alloc(), content, 4, (true, want))
 }
 
 #[test]
-fn the_first_argument_counts_most(rt: HostRuntime) -> Result<(), Fail> {
+fn reports_functions_of_any_number_of_parameters(rt: HostRuntime) -> Result<(), Fail> {
     let alloc = rt.alloc();
-    let mut trees = Module::new(alloc);
-    add_difference(alloc, &mut trees)?;
-    add_lost(alloc, &mut trees)?;
-    expect_report(
-        &rt,
-        alloc,
-        &trees,
-        (
-            true,
-            "m.py:9: error: false when calling sub(x = 0, y = -1) (which returns 1)\nm.py:11: error: UnboundLocalError when calling lost(x = 0, y = 0)\n",
-        ),
-    )
+    let none = b"def none():\n    '''post: __return__ < 1'''\n";
+    let want =
+        "m.py:1: info: Confirmed over all paths.\nm.py:2: error: TypeError in postcondition when calling none()\n";
+    expect_report(&rt, alloc, none, 8, (true, want))?;
+    let three =
+        b"def three(x: int, y: int, z: int):\n    '''post: x - y + z < 2'''\n    return 0\n";
+    let want =
+        "m.py:1: info: Confirmed over all paths.\nm.py:2: error: false when calling three(x = 0, y = -1, z = 1) (which returns 0)\n";
+    expect_report(&rt, alloc, three, 2, (true, want))
+}
+
+#[test]
+fn reports_functions_with_contract_lines_alone(rt: HostRuntime) -> Result<(), Fail> {
+    let content =
+        b"'''Three functions.'''\nfrom typing import List\n\ndef f(xs: List[int]):\n    return xs\n\ndef g(x: int):\n    '''raises: KeyError'''\n    return x\n\ndef h(x: str, y: int = 1):\n    '''A sentence.'''\n    return y\n\nif __name__ == '__main__':\n    f([1])\n";
+    let want = "m.py:7: info: Confirmed over all paths.\n";
+    expect_report(&rt, rt.alloc(), content, 8, (false, want))
+}
+
+#[test]
+fn unmet_preconditions_are_told(rt: HostRuntime) -> Result<(), Fail> {
+    let content =
+        b"def f(x: int):\n    '''\n    pre: x > 0\n    pre: x < 0\n    post: x\n    '''\n    return x\n";
+    let want =
+        "m.py:1: info: Unable to meet precondition.\nm.py:5: info: Unable to meet precondition.\n";
+    expect_report(&rt, rt.alloc(), content, 8, (false, want))
 }

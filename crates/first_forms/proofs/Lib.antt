@@ -1,4 +1,6 @@
-pub mod BodyParts
-pub mod Fitting
-pub mod HeaderParts
-pub mod Marks
+pub mod Lists
+pub mod Kept
+pub mod Grouping
+pub mod Values
+pub mod Checked
+pub mod Listing

@@ -1,6 +1,3 @@
-pub mod Errors
-pub mod Scopes
-pub mod Copies
-pub mod Headers
+pub mod Groups
 pub mod Bodies
 pub mod Formed

@@ -1,87 +1,145 @@
-ghost use Rattle.std.specs.Prelude.{◌≡◌, ◌<◌, ℕ, List, [], length};
-ghost use Rattle.spec_forms.specs.Forms.{function_at, functions_of};
+ghost use Rattle.std.specs.Prelude.{◌≡◌, ◌<◌, length, map};
+ghost use Rattle.spec_forms.specs.Forms.{functions_of, is_passed_over};
+ghost use Rattle.spec_names.specs.Members.{member_of};
 ghost use Rattle.py_tree.specs.Arena.{module_tree, shown_stmt};
+ghost use Rattle.contract_lines.specs.Given.{AreLinesThere, line_in};
 ghost use Rattle.first_tree.specs.Arena.{Extends};
-ghost use Rattle.first_forms.specs.Formed.{AreFormed, IsFormed, marks_of};
+ghost use Rattle.first_forms.specs.Formed.{AreAdded, AreFormed, IsFormed, IsThere, checked_at, functions_from};
 
-use crate::bodies::read_body;
-use crate::copying::copy_name;
-use crate::errors::{FormError, error_of};
-use crate::headers::{is_function, parameters_of};
+use crate::bodies::values;
+use crate::groups::grouped;
+use contract_lines::{ContractLine, Contracts};
+use first_promises::{FormError, copy_name, integer_parameters, read_promises};
 use first_tree as first;
 use first_tree::FnNode;
-use module_members::line_of;
-use py_tree::{Module, NameId, StmtId, StmtNode};
+use module_members::{Member, line_of, member_of};
+use py_tree::{Module, NameId, ParameterNode, StmtId, StmtNode};
 use std::alloc::Global;
 
-/// A function, with its name in the module from which it was read.
-#[derive(Drop)]
-pub(crate) struct Found {
+/// A `def` of a module.
+#[derive(Clone, Copy)]
+pub(crate) struct Definition<'a> {
+    pub line: u32,
     pub name: NameId,
-    pub node: FnNode,
+    pub parameters: &'a [ParameterNode],
+    pub body: &'a [StmtId],
 }
 
-// The function that a statement is, where some names are taken.
-fn function(
+// The function of a `def` that has these contract lines. After an error nodes may have been added.
+fn checked(
     alloc: Global,
     module: &Module,
-    s: StmtId,
-    taken: &[bool],
+    definition: Definition,
+    lines: &[ContractLine],
     into: &mut first::Module,
-) -> Result<Found, FormError>
-    requires statement { s.index < length «module».now.stmts }
-    requires marks { length taken.now ≡ length «module».now.names }
+) -> Result<FnNode, FormError>
+    requires definition { IsThere «module».now definition }
+    requires lines { AreLinesThere «module».now lines.now }
     ensures grown { Extends into.old.nodes into.new.nodes }
     ensures functions { into.new.functions ≡ into.old.functions }
-    ensures formed { (ts : List (List ℕ)) → taken.now ≡ marks_of ts «module».now.names → IsFormed «module».now into.new.nodes result (function_at ts (shown_stmt «module».now s.index)) }
+    ensures formed { IsFormed into.new.nodes result (checked_at «module».now definition.entry (map (line_in «module».now) lines.now)) }
 {
-    let StmtNode::Def {
-        line,
-        name,
+    let Some(parameters) = integer_parameters(alloc, module, definition.parameters)? else {
+        return Err(FormError::NotBuilt(definition.line));
+    };
+    let promises = read_promises(alloc, module, definition.parameters, lines, into)?;
+    let values = values(alloc, module, definition.body, definition.parameters, into)?;
+    Ok(FnNode {
+        name: copy_name(alloc, module.name_text(definition.name))?,
+        line: definition.line,
         parameters,
-        result: kind,
-        body: statements,
-        ..
-    } = module.stmt(s)
-    else {
-        return Err(FormError::NotBuilt(line_of(module, s)));
-    };
-    if !is_function(module, taken[name.index], *name, *kind) {
-        return Err(FormError::NotBuilt(*line));
-    }
-    let parameters = match parameters_of(alloc, module, parameters) {
-        Ok(parameters) => parameters,
-        Err(unformed) => return Err(error_of(unformed, *line)),
-    };
-    let body = read_body(alloc, module, *line, statements, &parameters, into)?;
-    Ok(Found {
-        name: *name,
-        node: FnNode {
-            name: copy_name(alloc, module.name_text(*name))?,
-            line: *line,
-            parameters,
-            post: body.post.condition,
-            post_line: body.post.line,
-            value: body.value,
-        },
+        preconditions: promises.preconditions,
+        permitted: promises.permitted,
+        posts: promises.posts,
+        values,
     })
 }
 
-/// The functions of a module that are run, in their order. It takes time linear in the number of nodes and names.
+// Reads the function of a `def`, and adds it where it has contract lines. The nodes of another one are not kept.
+fn add_function(
+    alloc: Global,
+    module: &Module,
+    definition: Definition,
+    lines: &[ContractLine],
+    into: &mut first::Module,
+) -> Result<(), FormError>
+    requires definition { IsThere «module».now definition }
+    requires lines { AreLinesThere «module».now lines.now }
+    ensures grown { Extends into.old.nodes into.new.nodes }
+    ensures added { AreAdded into.old into.new result (functions_from «module».now definition.entry (map (line_in «module».now) lines.now)) }
+{
+    if lines.is_empty() {
+        let mut unlisted = first::Module::new(alloc);
+        values(
+            alloc,
+            module,
+            definition.body,
+            definition.parameters,
+            &mut unlisted,
+        )?;
+        return Ok(());
+    }
+    let function = checked(alloc, module, definition, lines, into)?;
+    into.add_function(function)?;
+    Ok(())
+}
+
+// Whether a statement of a module does nothing when it is run.
+fn is_passed_over(module: &Module, s: StmtId) -> bool
+    requires { s.index < length «module».now.stmts }
+    ensures { result ≡ is_passed_over (member_of (shown_stmt «module».now s.index)) }
+{
+    matches!(
+        member_of(module, s),
+        Some(Member::Unnamed | Member::Imported(_))
+    )
+}
+
+/// The functions of a module that are run, in their order, from its contract lines.
+///
+/// It takes time linear in the numbers of nodes, of contract lines and of the classes that these name, and for each function
+/// in the product of the number of its parameters with the number of its contract lines and statements.
 ///
 /// # Errors
 ///
-/// `NotBuilt` at the first statement of another form, with its line. `NoMemory` where there is no memory for the
-/// functions, and for the text of a post condition of 2 GiB or more.
-pub fn functions(alloc: Global, module: &Module) -> Result<first::Module, FormError>
-    ensures { AreFormed result (functions_of [] (module_tree «module».now).body) }
+/// `NotBuilt` at the first statement or contract line of another form, with its line. Of a function come first its header,
+/// then its contract lines, and then its statements. `NoMemory` where there is no memory for the functions.
+pub fn functions(
+    alloc: Global,
+    module: &Module,
+    contracts: &Contracts,
+) -> Result<first::Module, FormError>
+    requires { AreLinesThere «module».now contracts.now }
+    ensures { AreFormed result (functions_of (map (line_in «module».now) contracts.now) (module_tree «module».now).body) }
 {
+    let groups = grouped(alloc, contracts, module.top())?;
     let mut functions = first::Module::new(alloc);
-    let mut taken = vec![in alloc; false; module.names_count()]?;
+    let mut number = 0;
     for i in 0..module.top() {
-        let found = function(alloc, module, module.top_stmt(i), &taken, &mut functions)?;
-        taken[found.name.index] = true;
-        functions.add_function(found.node)?;
+        let statement = module.top_stmt(i);
+        match module.stmt(statement) {
+            StmtNode::Def {
+                line,
+                name,
+                parameters,
+                body,
+                ..
+            } => {
+                let definition = Definition {
+                    line: *line,
+                    name: *name,
+                    parameters,
+                    body,
+                };
+                add_function(alloc, module, definition, &groups[number], &mut functions)?;
+                number += 1;
+            }
+            _ => {
+                if !is_passed_over(module, statement) {
+                    return Err(FormError::NotBuilt(line_of(module, statement)));
+                }
+            }
+        }
     }
     Ok(functions)
 }

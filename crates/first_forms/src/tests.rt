@@ -1,214 +1,124 @@
+ghost use Rattle.std.specs.Prelude.{◌<◌, length, IfOk};
+ghost use Rattle.py_tree.specs.Arena.{State};
+ghost use Rattle.contract_lines.specs.Given.{AreLinesThere};
+
 use crate::{FormError, functions};
-use first_tree as first;
-use first_tree::{ExprId, ExprNode};
-use py_parser::{SyntaxError, module};
-use py_tokens::{TokenError, scan};
+use contract_lines::{ContractLine, Contracts, FnId, LineKind, Owner};
+use py_tree::{ExprId, ExprNode, Module, ParameterNode, StmtNode, TypeNode};
+use std::alloc::Global;
 use std::test::Fail;
-use xh_outside::Bytes;
+use xh_outside::NoMemory;
 
-/// Appends bytes that are ASCII.
-fn write_bytes(shown: &mut String, bytes: &Bytes) -> Result<(), Fail> {
-    for b in bytes.as_slice() {
-        shown.push(*b as char)?;
-    }
-    Ok(())
+/// A module of `def f(x: ANNOTATION):` on line 1, whose body on line 3 returns `x`, the first of the expressions.
+fn sample(alloc: Global, annotation: &str) -> Result<Module, NoMemory>
+    ensures { IfOk result (λ m. 0 < length m.exprs) }
+{
+    let mut module = Module::new(alloc);
+    let x = module.add_name("x")?;
+    let value = module.add_expr(ExprNode::Name { line: 3, name: x })?;
+    let returned = module.add_stmt(StmtNode::Return {
+        line: 3,
+        value: Some(value),
+    })?;
+    let kind = module.add_name(annotation)?;
+    let annotation = module.add_type(TypeNode::Name {
+        line: 1,
+        name: kind,
+        arguments: Vec::new(alloc),
+    })?;
+    let name = module.add_name("f")?;
+    let parameter = ParameterNode {
+        name: x,
+        annotation: Some(annotation),
+        default: None,
+    };
+    let function = module.add_stmt(StmtNode::Def {
+        line: 1,
+        last: 3,
+        name,
+        parameters: vec![in alloc; parameter]?,
+        result: None,
+        body: vec![in alloc; returned]?,
+    })?;
+    module.push_top(function)?;
+    Ok(module)
 }
 
-/// Writes a node behind its line, with the numbers of its parts.
-fn write_expr(shown: &mut String, node: &ExprNode) -> Result<(), Fail> {
-    match node {
-        ExprNode::Name { name, line } => {
-            write!(shown, " {line}:")?;
-            write_bytes(shown, name)?;
-        }
-        ExprNode::Int { value, line } => write!(shown, " {line}:{value}")?,
-        ExprNode::Binary {
-            op,
-            left,
-            right,
-            line,
-        } => write!(shown, " {line}:{op:?}({}, {})", left.index, right.index)?,
-        ExprNode::Compare {
-            op,
-            left,
-            right,
-            line,
-        } => write!(shown, " {line}:{op:?}({}, {})", left.index, right.index)?,
-        ExprNode::Group { inner, line } => write!(shown, " {line}:({})", inner.index)?,
-    }
-    Ok(())
-}
-
-/// Writes the functions, and behind them the nodes of their expressions.
-fn write_functions(shown: &mut String, functions: &first::Module) -> Result<(), Fail> {
-    for i in 0..functions.functions() {
-        let function = functions.function(i);
-        write!(shown, "{}:", function.line)?;
-        write_bytes(shown, &function.name)?;
-        write!(shown, "(")?;
-        write_bytes(shown, &function.parameters.first)?;
-        if let Some(second) = &function.parameters.second {
-            write!(shown, ", ")?;
-            write_bytes(shown, second)?;
-        }
-        write!(
-            shown,
-            ") {}:{} {};",
-            function.post_line, function.post.index, function.value.index
-        )?;
-    }
-    for index in 0..functions.len() {
-        write_expr(shown, functions.expr(ExprId { index }))?;
-    }
-    Ok(())
-}
-
-/// What a text is. A long text is not read.
-fn read(rt: &HostRuntime, text: &str) -> Result<String, Fail> {
-    if text.len() > 4096 {
-        return Err(TokenError::NoMemory.into());
-    }
-    let tokens = scan(rt.alloc(), text)?;
-    let mut shown = String::new(rt.alloc());
-    match module(rt.alloc(), &tokens) {
-        Ok(module) => match functions(rt.alloc(), &module) {
-            Ok(functions) => write_functions(&mut shown, &functions)?,
-            Err(FormError::NotBuilt(line)) => write!(shown, "not built {line}")?,
-            Err(FormError::NoMemory) => return Err(TokenError::NoMemory.into()),
-        },
-        Err(SyntaxError::NoMemory) => return Err(TokenError::NoMemory.into()),
-        Err(_) => write!(shown, "no module")?,
-    }
-    Ok(shown)
+/// The line `post: x` of the function of a number, on line 2.
+fn post(alloc: Global, index: usize) -> Result<Contracts, NoMemory>
+    ensures { (m : State) → 0 < length m.exprs → IfOk result (λ lines. AreLinesThere m lines) }
+{
+    let mut contracts = Contracts::new(alloc);
+    contracts.push(ContractLine {
+        owner: Owner::Function(FnId { index }),
+        kind: LineKind::Post,
+        line: 2,
+        expr: Some(ExprId { index: 0 }),
+        names: None,
+    })?;
+    Ok(contracts)
 }
 
 #[test]
-fn functions_are_read(rt: HostRuntime) -> Result<(), Fail> {
-    for (text, shown) in [
-        ("", ""),
-        ("# nothing\n\n", ""),
-        (
-            "def sq(x: int) -> int:\n    \"\"\"post: __return__ > 0\"\"\"\n    return x * x\n",
-            "1:sq(x) 2:2 5; 2:__return__ 2:0 2:Greater(0, 1) 3:x 3:x 3:Multiply(3, 4)",
-        ),
-        (
-            "# two\n\ndef less(a: int, b1: int) -> bool:\n    'post: a'\n\n    return (a - 1) < b1\n",
-            "3:less(a, b1) 4:0 6; 4:a 6:a 6:1 6:Subtract(1, 2) 6:(3) 6:b1 6:Less(4, 5)",
-        ),
-        (
-            "def f(x: int) -> int: # f\n  \"post: 1\"\n  return x\ndef g(x: int) -> bool:\n  \"post:  x==x\"\n  return 0\n",
-            "1:f(x) 2:0 1;4:g(x) 5:4 5; 2:1 3:x 5:x 5:x 5:Equal(2, 3) 6:0",
-        ),
-    ] {
-        let read = read(&rt, text)?;
-        assert_eq!(&rt; read.as_str(), shown);
+fn functions_with_contract_lines_are_run(rt: HostRuntime) -> Result<(), Fail> {
+    let alloc = rt.alloc();
+    let module = sample(alloc, "int")?;
+    let contracts = post(alloc, 0)?;
+    let functions = functions(alloc, &module, &contracts)?;
+    assert_eq!(&rt; functions.functions(), 1);
+    let function = functions.function(0);
+    assert_eq!(&rt; function.name.as_slice(), b"f".as_slice());
+    assert_eq!(&rt; function.line, 1);
+    assert_eq!(&rt; function.parameters.len(), 1);
+    assert_eq!(&rt; function.parameters[0].as_slice(), b"x".as_slice());
+    assert_eq!(&rt;
+        (function.preconditions.len(), function.permitted.len()),
+        (0, 0)
+    );
+    assert_eq!(&rt; (function.posts.len(), function.values.len()), (1, 1));
+    assert_eq!(&rt;
+        (function.posts[0].line, function.posts[0].expr.index),
+        (2, 0)
+    );
+    assert_eq!(&rt; function.values[0].index, 1);
+    assert_eq!(&rt; functions.len(), 2);
+    Ok(())
+}
+
+#[test]
+fn functions_without_contract_lines_are_let_go(rt: HostRuntime) -> Result<(), Fail> {
+    let alloc = rt.alloc();
+    let module = sample(alloc, "str")?;
+    let contracts = post(alloc, 1)?;
+    let functions = functions(alloc, &module, &contracts)?;
+    assert_eq!(&rt; (functions.functions(), functions.len()), (0, 0));
+    Ok(())
+}
+
+#[test]
+fn other_types_are_refused_at_the_header(rt: HostRuntime) -> Result<(), Fail> {
+    let alloc = rt.alloc();
+    let module = sample(alloc, "str")?;
+    let contracts = post(alloc, 0)?;
+    match functions(alloc, &module, &contracts) {
+        Ok(_) => assert!(&rt; false),
+        Err(error) => assert_eq!(&rt; error, FormError::NotBuilt(1)),
     }
     Ok(())
 }
 
 #[test]
-fn other_forms_are_refused_at_their_lines(rt: HostRuntime) -> Result<(), Fail> {
-    for (text, line) in [
-        ("pass\n", 1),
-        ("\nx = 1\n", 2),
-        // headers
-        ("def f() -> int:\n  'post: 1'\n  return 1\n", 1),
-        (
-            "def f(x: int, y: int, z: int) -> int:\n  'post: 1'\n  return 1\n",
-            1,
-        ),
-        (
-            "def f(x: int, x: int) -> int:\n  'post: 1'\n  return 1\n",
-            1,
-        ),
-        ("def f(x: bool) -> int:\n  'post: 1'\n  return 1\n", 1),
-        ("def f(x) -> int:\n  'post: 1'\n  return 1\n", 1),
-        ("def f(x: int = 1) -> int:\n  'post: 1'\n  return 1\n", 1),
-        ("def f(x: int) -> str:\n  'post: 1'\n  return 1\n", 1),
-        ("def f(x: int):\n  'post: 1'\n  return 1\n", 1),
-        ("def f(x: list[int]) -> int:\n  'post: 1'\n  return 1\n", 1),
-        ("def len(x: int) -> int:\n  'post: 1'\n  return 1\n", 1),
-        ("def f_(x: int) -> int:\n  'post: 1'\n  return 1\n", 1),
-        ("def f(X: int) -> int:\n  'post: 1'\n  return 1\n", 1),
-        // docstrings
-        ("def f(x: int) -> int:\n  return 1\n", 2),
-        ("def f(x: int) -> int:\n  'pre: 1'\n  return 1\n", 2),
-        (
-            "def f(x: int) -> int:\n  'post: 1' 'post: 1'\n  return 1\n",
-            2,
-        ),
-        (
-            "def f(x: int) -> int:\n  '''post: 1\n  '''\n  return 1\n",
-            2,
-        ),
-        ("def f(x: int) -> int:\n  'post: y'\n  return 1\n", 2),
-        ("def f(x: int) -> int:\n  'post: True'\n  return 1\n", 2),
-        ("def f(x: int) -> int:\n  'post: 1 +'\n  return 1\n", 2),
-        (
-            "def f(x: int) -> int:\n  'post: 1 < 2 < 3'\n  return 1\n",
-            2,
-        ),
-        ("def f(x: int) -> int:\n  'post: 1000000'\n  return 1\n", 2),
-        // values
-        ("def f(x: int) -> int:\n  'post: 1'\n", 1),
-        ("def f(x: int) -> int:\n  'post: 1'\n  pass\n", 3),
-        ("def f(x: int) -> int:\n  'post: 1'\n  return\n", 3),
-        (
-            "def f(x: int) -> int:\n  'post: 1'\n  return __return__\n",
-            3,
-        ),
-        ("def f(x: int) -> int:\n  'post: 1'\n  return x // 2\n", 3),
-        (
-            "def f(x: int) -> int:\n  'post: 1'\n  return 1\n  pass\n",
-            4,
-        ),
-        // functions
-        (
-            "def f(x: int) -> int:\n  'post: 1'\n  return 1\ndef f(x: int) -> int:\n  'post: 1'\n  return 1\n",
-            4,
-        ),
-        ("def f(x: int) -> int:\n  'post: 1'\n  return 1\nx\n", 4),
-    ] {
-        let read = read(&rt, text)?;
-        let want = format!(in rt.alloc(); "not built {line}")?;
-        assert_eq!(&rt; read.as_str(), want.as_str());
-    }
-    Ok(())
-}
-
-/// A function whose value is this, so many times, then another text, and then a third as often.
-fn valued(
-    rt: &HostRuntime,
-    count: u32,
-    before: &str,
-    inside: &str,
-    after: &str,
-) -> Result<String, Fail> {
-    let mut text = String::from_str(rt.alloc(), "def f(x: int) -> int:\n  'post: 1'\n  return ")?;
-    for _ in 0..count {
-        text.push_str(before)?;
-    }
-    text.push_str(inside)?;
-    for _ in 0..count {
-        text.push_str(after)?;
-    }
-    text.push_str("\n")?;
-    Ok(text)
-}
-
-#[test]
-fn expressions_have_limits(rt: HostRuntime) -> Result<(), Fail> {
-    for (count, before, inside, after, is_read) in [
-        (64, "(", "x", ")", true),
-        (65, "(", "x", ")", false),
-        (31, "", "x", " + x", true),
-        (32, "", "x", " + x", false),
-        (31, "x * (", "x", ")", true),
-        (32, "x * (", "x", ")", false),
-    ] {
-        let text = valued(&rt, count, before, inside, after)?;
-        let read = read(&rt, text.as_str())?;
-        assert_eq!(&rt; read.as_str() != "not built 3", is_read);
+fn other_statements_are_refused_at_their_lines(rt: HostRuntime) -> Result<(), Fail> {
+    let alloc = rt.alloc();
+    let mut module = Module::new(alloc);
+    let pass = module.add_stmt(StmtNode::Pass { line: 1 })?;
+    module.push_top(pass)?;
+    let last = module.add_stmt(StmtNode::Break { line: 2 })?;
+    module.push_top(last)?;
+    let contracts = Contracts::new(alloc);
+    match functions(alloc, &module, &contracts) {
+        Ok(_) => assert!(&rt; false),
+        Err(error) => assert_eq!(&rt; error, FormError::NotBuilt(2)),
     }
     Ok(())
 }

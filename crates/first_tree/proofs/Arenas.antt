@@ -104,10 +104,21 @@ shown_at ns i n a lt e =
     let kept : shown ns i ≡ shown (h.front ++ n ∷ []) i = shown_kept (h.front ++ n ∷ []) ns i through (omega (arith, length-append h.front (n ∷ []))) in
     kept ∙ shown_added h.front n i (sym place) ∙ tree_same (shown h.front) (shown ns) n i parts (λ j less. sym (shown_kept h.front ns j before (omega arith)))
 
+-- a function stands where there are more nodes
+pub function_kept : (k j : ℕ) (f : FnNode) → k ≤ j → IsFunctionBelow k f → IsFunctionBelow j f
+function_kept k j f le h = record {
+  preconditions = λ i d lt. trans_lt k j _ (h.preconditions i d lt) le;
+  posts = λ i d lt. trans_lt k j _ (h.posts i d lt) le;
+  values = λ i d lt. trans_lt k j _ (h.values i d lt) le;
+}
+  where
+    trans_lt : (k j i : ℕ) → i < k → k ≤ j → i < j
+    trans_lt k j i lt le = omega arith
+
 -- functions stand where there are more nodes
 pub functions_kept : (k j : ℕ) (fs : List FnNode) → k ≤ j → AreFunctionsBelow k fs → AreFunctionsBelow j fs
 functions_kept k j [] le h = tt
-functions_kept k j (f ∷ fs) le h = let below : IsFunctionBelow k f = h.0 in ((omega arith, omega arith), functions_kept k j fs le h.1)
+functions_kept k j (f ∷ fs) le h = (function_kept k j f le h.0, functions_kept k j fs le h.1)
 
 -- functions and one more
 pub functions_push : (k : ℕ) (fs gs : List FnNode) (f : FnNode) → AreFunctionsBelow k fs → IsFunctionBelow k f → gs ≡ fs ++ f ∷ [] → AreFunctionsBelow k gs

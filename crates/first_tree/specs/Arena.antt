@@ -1,9 +1,11 @@
 -- The tree of each node of an arena.
-use Rattle.std.specs.Prelude.{◌≡◌, ◌<◌, ℕ, ◌+◌, List, [], ◌∷◌, ◌++◌, slice_index_or}
+use Rattle.std.specs.Prelude.{◌≡◌, ◌<◌, ℕ, ◌+◌, List, [], ◌∷◌, ◌++◌, All, slice_index_or}
 use Rattle.spec_first_trees.specs.Expr as tree
 use Rattle.spec_first_trees.specs.Expr.{Expr}
 use Rattle.first_tree.specs.declared.nodes.ExprNode.{ExprNode}
 use Rattle.first_tree.specs.declared.nodes.ExprNode.TheVariants as node
+use Rattle.first_tree.specs.declared.nodes.ExprId.{ExprId}
+use Rattle.first_tree.specs.declared.nodes.Post.{Post}
 use Rattle.first_tree.specs.declared.nodes.FnNode.{FnNode}
 
 -- the tree of a node, where t gives those of its parts
@@ -30,9 +32,17 @@ AreFrom n (x ∷ xs) = ArePartsBelow n x × AreFrom (n + 1) xs
 abbrev pub IsArena : List ExprNode → Type 0
 IsArena nodes = AreFrom 0 nodes
 
+abbrev pub AreExprsBelow : ℕ → List ExprId → Type 0
+AreExprsBelow n es = All (λ (e : ExprId). e.index < n) es
+
+abbrev pub ArePostsBelow : ℕ → List Post → Type 0
+ArePostsBelow n ps = All (λ (p : Post). p.expr.index < n) ps
+
 -- the expressions of a function are among the first n nodes
-abbrev pub IsFunctionBelow : ℕ → FnNode → Type 0
-IsFunctionBelow n f = (f.post.index < n) × (f.value.index < n)
+pub record IsFunctionBelow (n : ℕ) (f : FnNode) : Type 0 where
+  pub preconditions : AreExprsBelow n f.preconditions.items
+  pub posts : ArePostsBelow n f.posts.items
+  pub values : AreExprsBelow n f.values.items
 
 abbrev pub AreFunctionsBelow : ℕ → List FnNode → Type 0
 AreFunctionsBelow n [] = Unit {0}

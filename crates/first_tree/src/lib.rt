@@ -12,5 +12,5 @@ mod tests;
 
 pub use bounds::Bounds;
 pub use module::Module;
-pub use nodes::{ExprId, ExprNode, FnNode, Parameters};
-pub use spec_first_trees::{BinaryOp, CompareOp, ExcClass, LimitKind};
+pub use nodes::{ExprId, ExprNode, FnNode, Post};
+pub use spec_first_trees::{BinaryOp, CLASS_NAMES, CompareOp, ExcClass, LimitKind};

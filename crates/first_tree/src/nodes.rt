@@ -1,4 +1,4 @@
-use crate::{BinaryOp, CompareOp};
+use crate::{BinaryOp, CompareOp, ExcClass};
 use xh_outside::Bytes;
 
 /// An expression of a module, by the place of its node.
@@ -37,22 +37,25 @@ pub enum ExprNode {
     },
 }
 
-/// The names of one or two parameters, which are integers.
-#[derive(Drop)]
-pub struct Parameters {
-    pub first: Bytes,
-    pub second: Option<Bytes>,
+/// A post line: its expression, and the line on which it stands.
+#[derive(Clone, Copy, Debug, PartialEq, Eq)]
+pub struct Post {
+    pub line: u32,
+    pub expr: ExprId,
 }
 
-/// A function: its post condition, and the expression that it returns. Lines are counted from 1.
+/// A function with its contract lines, each kind in the order of lines. Lines are counted from 1.
 #[derive(Drop)]
 pub struct FnNode {
     pub name: Bytes,
     /// The line of its `def`.
     pub line: u32,
-    pub parameters: Parameters,
-    pub post: ExprId,
-    /// The line of its post condition.
-    pub post_line: u32,
-    pub value: ExprId,
+    /// The names of its parameters, which are integers.
+    pub parameters: Vec<Bytes>,
+    pub preconditions: Vec<ExprId>,
+    /// The exception classes that it may raise, with those below them.
+    pub permitted: Vec<ExcClass>,
+    pub posts: Vec<Post>,
+    /// What its `return` statements return; the first counts, and with none the function returns None.
+    pub values: Vec<ExprId>,
 }

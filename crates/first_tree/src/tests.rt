@@ -1,4 +1,4 @@
-use crate::{BinaryOp, Bounds, ExprNode, FnNode, Module, Parameters};
+use crate::{BinaryOp, Bounds, ExcClass, ExprNode, FnNode, Module, Post};
 use std::alloc::Global;
 use std::test::Fail;
 use xh_outside::{Bytes, NoMemory};
@@ -27,25 +27,56 @@ fn a_square_is_read_back(rt: HostRuntime) -> Result<(), Fail> {
         right,
         line: 3,
     })?;
+    let mut parameters = Vec::new(alloc);
+    parameters.push(bytes(alloc, b"x")?)?;
+    let mut preconditions = Vec::new(alloc);
+    preconditions.push(right)?;
+    let mut permitted = Vec::new(alloc);
+    permitted.push(ExcClass::ValueError)?;
+    let mut posts = Vec::new(alloc);
+    posts.push(Post {
+        line: 2,
+        expr: left,
+    })?;
+    let mut values = Vec::new(alloc);
+    values.push(square)?;
     module.add_function(FnNode {
         name: bytes(alloc, b"sq")?,
         line: 1,
-        parameters: Parameters {
-            first: bytes(alloc, b"x")?,
-            second: None,
-        },
-        post: left,
-        post_line: 2,
-        value: square,
+        parameters,
+        preconditions,
+        permitted,
+        posts,
+        values,
     })?;
     assert_eq!(rt; (module.len(), module.functions()), (3, 1));
 
     let function = module.function(0);
     assert_eq!(rt; function.name.as_slice(), b"sq".as_slice());
-    assert_eq!(rt; function.parameters.first.as_slice(), b"x".as_slice());
-    assert!(rt; function.parameters.second.is_none());
-    assert_eq!(rt; (function.post, function.value), (left, square));
-    assert_eq!(rt; (function.line, function.post_line), (1, 2));
+    assert_eq!(rt; function.line, 1);
+    assert_eq!(rt;
+        (function.parameters.len(), function.preconditions.len()),
+        (1, 1)
+    );
+    assert_eq!(rt;
+        (
+            function.permitted.len(),
+            function.posts.len(),
+            function.values.len()
+        ),
+        (1, 1, 1)
+    );
+    assert_eq!(rt; function.parameters[0].as_slice(), b"x".as_slice());
+    assert_eq!(rt; function.preconditions[0], right);
+    assert_eq!(rt; function.permitted[0], ExcClass::ValueError);
+    assert_eq!(rt;
+        function.posts[0],
+        Post {
+            line: 2,
+            expr: left
+        }
+    );
+    assert_eq!(rt; function.values[0], square);
     let is_square = match module.expr(square) {
         ExprNode::Binary {
             op,

@@ -64,16 +64,16 @@ abbrev pub formed : Result (List Function) ℕ → Result Program Refusal
 formed (Ok fs) = Ok (record { functions = fs })
 formed (Err n) = refused n (codes "NotBuilt")
 
--- the program of a block whose contract lines are right, by what is told of its names
-abbrev pub as_profile : Block → Option names.Refusal → Result Program Refusal
-as_profile b None = formed (functions_of [] b)
-as_profile b (Some r) = refused r.line (profile_fault_name r.fault)
+-- the program of a block with these contract lines, by what is told of its names
+abbrev pub as_profile : Block → List ContractLine → Option names.Refusal → Result Program Refusal
+as_profile b ls None = formed (functions_of ls b)
+as_profile b ls (Some r) = refused r.line (profile_fault_name r.fault)
 
 -- the phases behind, under these bounds
 module _ (bounds : Bounds) where
   -- the program of a block whose contract lines are read
   abbrev pub as_contracts : Block → Result (List ContractLine) contracts.Refusal → Result Program Refusal
-  as_contracts b (Ok ls) = as_profile b (profile_refusal b ls bounds.max_len bounds.max_nest)
+  as_contracts b (Ok ls) = as_profile b ls (profile_refusal b ls bounds.max_len bounds.max_nest)
   as_contracts b (Err r) = refused r.line (contract_fault_name r.fault)
 
   abbrev pub as_block : Result Block Misfit → Result Program Refusal

@@ -18,12 +18,17 @@ argument_text (Number z) = signed_decimal z
 abbrev pub named : List ℕ → Argument → List ℕ
 named name a = name ++ codes " = " ++ argument_text a
 
--- `P1 = A1, P2 = A2`
+-- `, P2 = A2, P3 = A3`
+abbrev pub more_text : List Parameter → Call → List ℕ
+more_text [] c = []
+more_text (p ∷ ps) [] = []
+more_text (p ∷ ps) (a ∷ c) = codes ", " ++ named p.name a ++ more_text ps c
+
+-- `P1 = A1, P2 = A2, P3 = A3`
 abbrev pub arguments_text : List Parameter → Call → List ℕ
 arguments_text [] c = []
 arguments_text (p ∷ ps) [] = []
-arguments_text (p ∷ []) (a ∷ c) = named p.name a
-arguments_text (p ∷ q ∷ ps) (a ∷ c) = named p.name a ++ codes ", " ++ arguments_text (q ∷ ps) c
+arguments_text (p ∷ ps) (a ∷ c) = named p.name a ++ more_text ps c
 
 -- a call is printed as `NAME(P1 = A1, P2 = A2)`
 unfoldable pub printed : Function → Call → List ℕ

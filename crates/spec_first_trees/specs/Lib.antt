@@ -1,3 +1,4 @@
 pub mod Expr
+pub mod Classes
 pub mod Program
 pub mod Bounds

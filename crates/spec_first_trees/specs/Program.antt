@@ -1,5 +1,6 @@
 -- Programs: the functions that are checked, with their conditions. Names are lists of bytes.
 use Rattle.std.specs.Prelude.{ℕ, List}
+use Rattle.spec_first_trees.specs.declared.ExcClass.{ExcClass}
 use Rattle.spec_first_trees.specs.Expr.{Expr}
 
 -- the types of parameters
@@ -22,8 +23,8 @@ pub record Numbered : Type 0 where
 
 -- What a function promises. Each condition has the line under which it is reported.
 pub data Condition : Type 0 where
-  -- no exception class is raised
-  Raises : ℕ → Condition
+  -- no exception class is raised but these and those below them
+  Raises : ℕ → List ExcClass → Condition
   -- the expression holds after the call
   Post : ℕ → Expr → Condition
 

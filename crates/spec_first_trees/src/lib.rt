@@ -47,3 +47,21 @@ pub enum ExcClass {
     RuntimeError,
     NotImplementedError,
 }
+
+/// The exception classes with their names, each before those below it.
+pub const CLASS_NAMES: [(&str, ExcClass); 14] = [
+    ("Exception", ExcClass::Exception),
+    ("ArithmeticError", ExcClass::ArithmeticError),
+    ("ZeroDivisionError", ExcClass::ZeroDivisionError),
+    ("LookupError", ExcClass::LookupError),
+    ("IndexError", ExcClass::IndexError),
+    ("KeyError", ExcClass::KeyError),
+    ("ValueError", ExcClass::ValueError),
+    ("TypeError", ExcClass::TypeError),
+    ("AttributeError", ExcClass::AttributeError),
+    ("NameError", ExcClass::NameError),
+    ("UnboundLocalError", ExcClass::UnboundLocalError),
+    ("AssertionError", ExcClass::AssertionError),
+    ("RuntimeError", ExcClass::RuntimeError),
+    ("NotImplementedError", ExcClass::NotImplementedError),
+];

@@ -1,9 +1,10 @@
 -- What breaks a condition, and what limits it.
-use Rattle.std.specs.Prelude.{Bool, true, false, [], ◌∷◌, ◌++◌, map, Option, Some, None, if◌then◌else◌}
+use Rattle.std.specs.Prelude.{Bool, List, true, false, [], ◌∷◌, ◌++◌, map, Option, Some, None, if◌then◌else◌}
 use Rattle.spec_first_trees.specs.declared.ExcClass.{ExcClass}
 use Rattle.spec_first_trees.specs.declared.LimitKind.{LimitKind}
 use Rattle.spec_first_trees.specs.Bounds.{Bounds}
 use Rattle.spec_first_trees.specs.Expr.{Expr}
+use Rattle.spec_first_trees.specs.Classes.{is_permitted}
 use Rattle.spec_first_trees.specs.Program.{Function, Condition, Raises, Post}
 use Rattle.spec_running.specs.declared.Value.{Value}
 use Rattle.spec_running.specs.declared.Outcome.{Outcome}
@@ -41,17 +42,21 @@ line_limit (Returned w) = None
 line_limit (Raised c) = None
 line_limit (Limit k) = Some k
 
--- Condition 0 is broken where the body raised. A post condition is judged only after a normal return.
+-- what a raised class breaks, where these are permitted with those below them
+abbrev pub raise_fault : List ExcClass → ExcClass → Option Fault
+raise_fault permitted c = if is_permitted permitted c then None else Some (RaisedInBody c)
+
+-- Condition 0 is broken where the body raised a class that is not permitted. A post condition is judged only after a normal return.
 abbrev pub fault_at : Function → Condition → Call → Bounds → Heap → Outcome → Option Fault
-fault_at f (Raises line) c bounds heap (Returned v) = None
-fault_at f (Raises line) c bounds heap (Raised class) = Some (RaisedInBody class)
-fault_at f (Raises line) c bounds heap (Limit k) = None
+fault_at f (Raises line permitted) c bounds heap (Returned v) = None
+fault_at f (Raises line permitted) c bounds heap (Raised class) = raise_fault permitted class
+fault_at f (Raises line permitted) c bounds heap (Limit k) = None
 fault_at f (Post line e) c bounds heap (Returned v) = line_fault v (line_outcome f c bounds heap v e)
 fault_at f (Post line e) c bounds heap (Raised class) = None
 fault_at f (Post line e) c bounds heap (Limit k) = None
 
 abbrev pub limit_at : Function → Condition → Call → Bounds → Heap → Outcome → Option LimitKind
-limit_at f (Raises line) c bounds heap outcome = None
+limit_at f (Raises line permitted) c bounds heap outcome = None
 limit_at f (Post line e) c bounds heap (Returned v) = line_limit (line_outcome f c bounds heap v e)
 limit_at f (Post line e) c bounds heap (Raised class) = None
 limit_at f (Post line e) c bounds heap (Limit k) = None

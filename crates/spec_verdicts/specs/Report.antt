@@ -50,7 +50,7 @@ abbrev pub join : Total → Total → Total
 join a b = record { out = a.out ++ b.out; entries = a.entries ++ b.entries; fault = a.fault ++ b.fault; status = max a.status b.status }
 
 abbrev pub line_of : Condition → ℕ
-line_of (Raises line) = line
+line_of (Raises line permitted) = line
 line_of (Post line e) = line
 
 abbrev pub is_error : Verdict → Bool

@@ -1,0 +1,6 @@
+pub mod Errors
+pub mod Scopes
+pub mod Gives
+pub mod Copies
+pub mod Lines
+pub mod Promised

@@ -1,0 +1,4 @@
+pub mod Evaluation
+pub mod Joinings
+pub mod Judgements
+pub mod Lookups

@@ -1,0 +1,5 @@
+pub mod Comparing
+pub mod Evaluates
+pub mod Joining
+pub mod Judges
+pub mod Meaning

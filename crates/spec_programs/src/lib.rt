@@ -1,0 +1,2 @@
+//! The program that an admitted module is: its functions and classes with their contracts.
+#![tactic(auto)]
