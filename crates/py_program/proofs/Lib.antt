@@ -1,0 +1,4 @@
+pub mod There
+pub mod Named
+pub mod Listed
+pub mod Among

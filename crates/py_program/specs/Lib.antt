@@ -1,0 +1,4 @@
+pub mod Entries
+pub mod Programs
+pub mod Named
+pub mod Inside
